@@ -1,0 +1,4 @@
+pub mod Name
+pub mod FileName
+pub mod Stored
+pub mod Pages

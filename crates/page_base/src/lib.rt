@@ -1,0 +1,22 @@
+//! What all layers speak of: names, values, rows, columns, images of pages, and the numbers of things.
+#![tactic(auto)]
+
+mod column;
+mod failure;
+mod file_name;
+mod image;
+mod list;
+mod name;
+mod numbers;
+mod table;
+mod value;
+
+pub use column::{ColType, Column, Columns};
+pub use failure::{Failed, NameRefusal, NoMemory};
+pub use file_name::FileName;
+pub use image::{Image, PAGE};
+pub use list::ListOf;
+pub use name::Name;
+pub use numbers::{Mode, PageId, SessNo, SnapNo, TableNo};
+pub use table::Table;
+pub use value::{Bytes, Row, RowList, Truth, Value};
