@@ -116,9 +116,9 @@ is_page-other : (p q : PageId) → q ≢ p → is_page p q ≡ false
 is_page-other p q ne =
     elim (cases_eq p.file q.file) [
       | inl e ↦ elim (cases_eq p.page q.page) [
-          | inl f ↦ absurd (ne (λ i. record { file = sym e i; page = sym f i }))
-          | inr no_page ↦ ap (λ b. p.file == q.file && b) (ne_eqb p.page q.page no_page) ∙ and_no (p.file == q.file)
-        ]
+        | inl f ↦ absurd (ne (λ i. record { file = sym e i; page = sym f i }))
+        | inr no_page ↦ ap (λ b. p.file == q.file && b) (ne_eqb p.page q.page no_page) ∙ and_no (p.file == q.file)
+      ]
       | inr no_file ↦ ap (λ b. b && p.page == q.page) (ne_eqb p.file q.file no_file)
     ]
   where
@@ -129,6 +129,6 @@ is_page-other p q ne =
 -- the images after one page was set, as functions
 pub image_at-with_page : (pages : Pages (List ℕ)) (p : PageId) (x : List ℕ) → HasPage pages p → image_at (with_page pages p x) ≡ set_at (image_at pages) p x
 image_at-with_page pages p x h = λ i q. (elim (cases_page q p) as (λ c. image_at (with_page pages p x) q ≡ set_at (image_at pages) p x q) [
-    | inl e ↦ ap (image_at (with_page pages p x)) e ∙ page_or-with_page_same pages p x blank h ∙ sym (ap (λ b. cond b x (image_at pages q)) (ap (is_page p) e ∙ is_page-same p))
-    | inr ne ↦ page_or-with_page_other pages p q x blank ne ∙ sym (ap (λ b. cond b x (image_at pages q)) (is_page-other p q ne))
-  ]) i
+  | inl e ↦ ap (image_at (with_page pages p x)) e ∙ page_or-with_page_same pages p x blank h ∙ sym (ap (λ b. cond b x (image_at pages q)) (ap (is_page p) e ∙ is_page-same p))
+  | inr ne ↦ page_or-with_page_other pages p q x blank ne ∙ sym (ap (λ b. cond b x (image_at pages q)) (is_page-other p q ne))
+]) i

@@ -1,0 +1,17 @@
+//! The plain machine of whole tables: statements, replies, events, and which history of them is legal.
+#![tactic(auto)]
+
+mod event;
+mod expr;
+mod reply;
+mod scripts;
+mod stmt;
+
+pub use event::{Book, Event, LockName};
+pub use expr::{CompareOp, Expr, InRest, MathOp};
+pub use reply::{Carried, Message, Reply};
+pub use scripts::{Scripts, StmtList};
+pub use stmt::{
+    DeleteStmt, ExprList, ExprRows, InsertStmt, Items, Names, OrderItem, OrderList, SelectStmt,
+    SetItem, SetList, SnapFile, SnapFiles, Stmt, Sum, SumList, UpdateStmt,
+};
