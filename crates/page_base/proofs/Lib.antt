@@ -1,2 +1,3 @@
 mod Lowered
 pub mod PagesLemmas
+pub mod Ordered

@@ -1,4 +1,5 @@
 pub mod Name
 pub mod FileName
 pub mod Stored
+pub mod Order
 pub mod Pages

@@ -2,9 +2,11 @@
 
 ghost use Rattle.std.specs.Prelude.{◌≡◌, IfOk, take};
 ghost use Rattle.page_base.specs.declared.value.Value.{Value};
+ghost use Rattle.page_base.specs.Order.{rank, value_cmp};
 
 use crate::{ListOf, NoMemory};
 use std::alloc::Global;
+use std::cmp::Ordering;
 
 /// Bytes of any length.
 pub type Bytes = ListOf<u8>;
@@ -33,6 +35,30 @@ pub type Row = ListOf<Value>;
 pub type RowList = ListOf<Row>;
 
 impl Value {
+    // NULL stands before all values.
+    fn rank(&self) -> u8
+        ensures { result ≡ rank self.now }
+    {
+        match self {
+            Value::Null => 0,
+            Value::Int(_) => 1,
+            Value::Big(_) => 2,
+            Value::Text(_) => 3,
+        }
+    }
+
+    /// The order of values: NULL first, numbers by their size, texts by their bytes.
+    pub fn compare(&self, other: &Value) -> Ordering
+        ensures { result ≡ value_cmp self.now other.now }
+    {
+        match (self, other) {
+            (Value::Int(a), Value::Int(b)) => a.cmp(b),
+            (Value::Big(a), Value::Big(b)) => a.cmp(b),
+            (Value::Text(a), Value::Text(b)) => a.as_slice().cmp(b.as_slice()),
+            _ => self.rank().cmp(&other.rank()),
+        }
+    }
+
     /// The same value once more.
     pub fn copy(&self, alloc: Global) -> Result<Value, NoMemory>
         ensures { IfOk result (λ value. value ≡ self.now) }

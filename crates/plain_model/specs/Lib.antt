@@ -1,3 +1,12 @@
 pub mod Tree
 pub mod Shape
 pub mod Sound
+pub mod Tables
+pub mod Journal
+pub mod State
+pub mod Holding
+pub mod Meaning
+pub mod Next
+pub mod Legal
+pub mod Complete
+pub mod Printed
