@@ -2,6 +2,7 @@
 #![tactic(auto)]
 
 mod column;
+mod compare;
 mod failure;
 mod file_name;
 mod image;

@@ -10,7 +10,7 @@ use crate::NameRefusal;
 use std::marker::Model;
 
 /// The name of a table, a column or a database: 1 to 128 letters, digits and `_` in lower case.
-#[derive(Clone, Copy, Debug, PartialEq, Eq)]
+#[derive(Clone, Copy, Debug)]
 pub struct Name {
     // the bytes past the length are 0
     bytes: [u8; 128],
