@@ -1,0 +1,6 @@
+//! Database snapshots on sparse files: plays a script of SQL and prints the history of what happened.
+#![tactic(auto)]
+
+mod store;
+
+fn main(_rt: HostRuntime) {}
