@@ -1,11 +1,11 @@
 -- A page that was set, and the others.
-use Rattle.std.proofs.Common.{refl, ◌≡◌, ◌≢◌, ℕ, ◌<◌, ◌⊎◌, inl, inr, List, [], length, map, get_or, ap, sym, ◌∙◌, subst, arith, get_or-set_other, get_or-set_same, Bool, true, false, cond, ◌==◌, ◌&&◌, eq-eqb}
+use Rattle.std.proofs.Common.{refl, ◌≡◌, ◌≢◌, ℕ, ◌+◌, ◌<◌, ◌≤◌, ◌++◌, ◌∷◌, take, replicate, ◌⊎◌, inl, inr, List, [], length, map, get_or, ap, sym, ◌∙◌, subst, arith, get_or-set_other, get_or-set_same, Bool, true, false, cond, ◌==◌, ◌&&◌, eq-eqb}
 use Rattle.std.proofs.lemmas.Bool.{cases_lt, cases_eq, ne_eqb}
 use Rattle.std.proofs.Math.ListN.{set, length-set, length-map, get_or-map as get_or-map_any}
 use Rattle.std.proofs.Math.Seq.{map-set_same}
-use Rattle.std.proofs.lemmas.List.{get_or_past, get_or-map, map-set, get_or_default, set-get_or}
+use Rattle.std.proofs.lemmas.List.{get_or_past, get_or-map, map-set, map-append, take_more, get_or_default, set-get_or}
 use Rattle.page_base.specs.declared.numbers.PageId.{PageId}
-use Rattle.page_base.specs.Pages.{Pages, HasPage, page_or, with_page, shape, image_at, blank, is_page, set_at}
+use Rattle.page_base.specs.Pages.{Pages, HasPage, page_or, with_page, shape, filled, image_at, blank, is_page, set_at}
 
 module _ {X : Type 0} where
   pub file_there : (pages : Pages X) (p : PageId) → HasPage pages p → p.file < length pages
@@ -80,6 +80,20 @@ module _ {A X : Type 0} (f : A → List X) where
       map-set f rows p.file new
       ∙ ap (λ file. set (map f rows) p.file file) (is ∙ ap (λ file. set file p.page x) (sym (the_row rows pages p row e h at)))
       ∙ ap (λ ps. set ps p.file (set (get_or pages p.file []) p.page x)) e
+
+  pub shape_row : (rows : List A) (pages : Pages X) (file : ℕ) (row : A) → map f rows ≡ pages → file < length rows → row ≡ get_or rows file row → length (f row) ≡ get_or (shape pages) file 0
+  shape_row rows pages file row e lt at =
+      ap (λ r. length (f r)) at
+      ∙ ap length (sym (get_or-map f rows file row [] lt))
+      ∙ sym (get_or-map_any length (map f rows) file [])
+      ∙ ap (λ ps. get_or (shape ps) file 0) e
+
+  pub shape_past : (rows : List A) (pages : Pages X) (file : ℕ) → map f rows ≡ pages → length rows ≤ file → 0 ≡ get_or (shape pages) file 0
+  shape_past rows pages file e past = sym (get_or_past (shape pages) file 0 (omega (arith, length-map pages length, ap length e, length-map rows f)))
+
+  -- one file more
+  pub filled_more : (rows : List A) (counts : List ℕ) (i : ℕ) (row : A) (x : X) → i < length counts → f row ≡ replicate (get_or counts i 0) x → map f rows ≡ filled (take i counts) x → map f (rows ++ row ∷ []) ≡ filled (take (i + 1) counts) x
+  filled_more rows counts i row x lt is h = rw (map-append, take_more counts i 0 lt, map-append, h, is) refl
 
 -- a page that is there, by the shape
 pub HasPage-shape : {X Y : Type 0} (a : Pages X) (b : Pages Y) (p : PageId) → shape a ≡ shape b → HasPage a p → HasPage b p

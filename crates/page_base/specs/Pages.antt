@@ -28,6 +28,10 @@ image_at pages p = page_or pages p blank
 abbrev pub shape : {X : Type 0} → Pages X → List ℕ
 shape pages = map length pages
 
+-- the same value at each page of files of so many pages
+abbrev pub filled : {X : Type 0} → List ℕ → X → Pages X
+filled counts x = map (λ n. replicate n x) counts
+
 abbrev pub is_page : PageId → PageId → Bool
 is_page p q = p.file == q.file && p.page == q.page
 

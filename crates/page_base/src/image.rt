@@ -1,7 +1,9 @@
 //! The bytes of one page.
 
 ghost use Rattle.std.specs.Prelude.{◌≡◌, IfOk, length};
+ghost use Rattle.std.specs.Borrow.{Lends, Array, sem, u8 as byte};
 ghost use Rattle.page_base.specs.Pages.{blank};
+ghost use Rattle.page_base.specs.contracts.image.Image.{the_row};
 
 use crate::NoMemory;
 use std::alloc::Global;
@@ -13,17 +15,15 @@ pub const PAGE: usize = 8192;
 /// The 8,192 bytes of a page.
 #[derive(Debug, Drop)]
 pub struct Image {
-    bytes: Vec<u8>,
+    bytes: Box<[u8; 8192]>,
 }
 
 impl Model for Image {
-    ghost use Rattle.std.specs.Prelude.{◌≡◌, List, ℕ, length};
+    ghost use Rattle.std.specs.Prelude.{List, ℕ};
 
     ghost Value = { List ℕ };
 
-    ghost view = { λ a. a.bytes.items };
-
-    ghost invariant = { λ a. length a.bytes.items ≡ 8192 };
+    ghost view = { λ a. a.bytes.value };
 }
 
 impl Image {
@@ -32,9 +32,8 @@ impl Image {
     pub fn blank(alloc: Global) -> Result<Image, NoMemory>
         ensures { IfOk result (λ image. image ≡ blank) }
     {
-        Ok(Image {
-            bytes: vec![in alloc; 0u8; PAGE]?,
-        })
+        let bytes = Box::new(alloc, [0u8; PAGE])?;
+        Ok(Image { bytes })
     }
 
     /// The bytes.
@@ -42,7 +41,15 @@ impl Image {
         ensures value { result.now ≡ self.now }
         ensures len { length self.now ≡ 8192 }
     {
-        &self.bytes
+        &*self.bytes
+    }
+
+    /// The bytes, to be changed in place.
+    pub fn bytes_mut(&mut self) -> &mut [u8; 8192]
+        ensures* lends { sem 𝓛 (Lends the_row (Array byte 8192) self.entry result (λ w. w)) }
+        ensures value { result.now ≡ self.entry.now }
+    {
+        &mut *self.bytes
     }
 
     /// Takes over the bytes of another page.

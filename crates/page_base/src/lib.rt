@@ -10,6 +10,8 @@ mod list;
 mod name;
 mod numbers;
 mod table;
+#[cfg(test)]
+mod tests;
 mod value;
 
 pub use column::{ColType, Column, Columns};
