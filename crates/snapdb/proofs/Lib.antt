@@ -1,2 +1,6 @@
 mod MapLemmas
 mod StoreLemmas
+mod KeyLemmas
+mod Inserting
+mod Stepping
+mod Running
