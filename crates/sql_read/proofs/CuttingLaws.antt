@@ -1,0 +1,179 @@
+-- The tokens of a batch as a relation, and as what the cutting finds.
+use Rattle.std.proofs.Common.{◌≡◌, ◌≢◌, ℕ, zero, suc, ◌+◌, ◌<◌, ◌≤◌, Bool, true, false, cond, List, [], ◌∷◌, ◌++◌, length, take, drop, arith, ap, sym, ◌∙◌, refl, inl, inr, ◌⊎◌, subst, add-zero, add-one, map, Option, length-append}
+use Rattle.std.specs.Prelude.{Some, None, nat_le, ◌==◌, ◌&&◌, pos}
+use Rattle.std.specs.List.{list_all, prefix_len}
+use Rattle.std.specs.Char.{is_ascii_digit, to_ascii_lowercase}
+use Rattle.std.proofs.lemmas.Bool.{leb-true, le-leb, eqb-true}
+use Rattle.std.proofs.lemmas.List.{take-append-drop, length-take-le}
+use Rattle.std.proofs.Math.Seq.{take-append_seam, drop-append_seam}
+use Rattle.page_base.specs.Name.{IsName, is_name_byte}
+use Rattle.sql_read.specs.declared.keyword.Keyword.{Keyword}
+use Rattle.sql_read.specs.declared.token.Mark.TheVariants.{Open, Close, Comma, Star}
+use Rattle.sql_read.specs.declared.token.Token.{Token}
+use Rattle.sql_read.specs.declared.token.TokenKind.{TokenKind}
+use Rattle.sql_read.specs.declared.token.TokenKind.TheVariants as kind
+use Rattle.sql_read.specs.declared.token.TokenKind.TheVariants.{Key, Named, Number, Bad, End}
+use Rattle.sql_read.specs.declared.token.Mark.{Mark}
+use Rattle.sql_read.specs.Words.{text_of, keyword_of}
+use Rattle.sql_read.specs.Tokens.{is_white, goes_on, starts, number_of, byte_of, AreDigits, Spells, IsToken, token, Lexes, end, white, next}
+use Rattle.sql_read.specs.Cut.{IsPiece, IsWord, number_kind, name_kind, word_kind, mark_kind, kind_of, first_kind, joined, cut, tokens_from}
+use Rattle.sql_read.proofs.WordLemmas.{keyword_found, keyword_has, no_keyword}
+use Rattle.sql_read.proofs.Lexing.{all_same, front_passes, piece_of_digits, piece_is_word, word_is_name}
+use Rattle.sql_read.proofs.Cutting.{cut_skip, prefix_within}
+
+word_kind_of : (b : ℕ) (bs : List ℕ) → IsName (b ∷ bs) → kind_of (b ∷ bs) ≡ name_kind (map to_ascii_lowercase (b ∷ bs)) (keyword_of (map to_ascii_lowercase (b ∷ bs)))
+word_kind_of b bs name =
+    let letter : is_name_byte b ≡ true = name.each 0 0 (omega arith) in
+    let short : nat_le (length (b ∷ bs)) 128 ≡ true = le-leb _ _ name.short in
+    rw (letter, name.starts, short) refl
+
+mark_kind_of : (mark : Mark) → kind_of (byte_of mark ∷ []) ≡ kind.Mark mark
+mark_kind_of Open = refl
+mark_kind_of Close = refl
+mark_kind_of Comma = refl
+mark_kind_of Star = refl
+
+-- what bytes spell is the kind that is found
+only_kind : (bytes : List ℕ) (k : TokenKind) → Spells bytes k → kind_of bytes ≡ k
+only_kind [] (Key word) h = absurd (omega (arith, h.0.some))
+only_kind [] (Named name) h = absurd (omega (arith, h.0.some))
+only_kind [] (Number n) h = cc
+only_kind [] (kind.Mark mark) h = cc
+only_kind bytes Bad h = absurd h
+only_kind bytes End h = absurd h
+only_kind (b ∷ bs) (Key word) h = word_kind_of b bs h.0 ∙ ap (λ (letters : List ℕ). name_kind letters (keyword_of letters)) h.1 ∙ ap (name_kind (text_of word)) (keyword_found word)
+only_kind (b ∷ bs) (Named name) h = word_kind_of b bs h.0 ∙ ap (λ (letters : List ℕ). name_kind letters (keyword_of letters)) h.1 ∙ ap (name_kind name) (no_keyword name h.2)
+only_kind (b ∷ bs) (Number n) h = let small : nat_le (number_of (b ∷ bs)) 2147483647 ≡ true = le-leb _ _ h.1 in rw (h.0.0, small, ← h.2) refl
+only_kind (b ∷ bs) (kind.Mark mark) h = ap kind_of h ∙ mark_kind_of mark
+
+clash : (v : Bool) → v ≡ true → v ≡ false → ⊥
+clash v h i = cc
+
+abbrev pub Found : List ℕ → TokenKind → Type 0
+Found bytes k = Spells bytes k ⊎ (k ≡ Bad)
+
+either_found : (bytes : List ℕ) (v : Bool) (j k : TokenKind) → (v ≡ true → Found bytes j) → (v ≡ false → Found bytes k) → Found bytes (cond v j k)
+either_found bytes true j k h i = h refl
+either_found bytes false j k h i = i refl
+
+number_found : (bytes : List ℕ) → AreDigits bytes → Found bytes (number_kind (number_of bytes))
+number_found bytes digits = either_found bytes (nat_le (number_of bytes) 2147483647) _ _ (λ small. inl (digits, leb-true _ _ small, refl)) (λ large. inr refl)
+
+name_found : (bytes : List ℕ) (o : Option Keyword) → IsName bytes → keyword_of (map to_ascii_lowercase bytes) ≡ o → Found bytes (name_kind (map to_ascii_lowercase bytes) o)
+name_found bytes None name e = inl (name, refl, (λ word same. let found : keyword_of (map to_ascii_lowercase bytes) ≡ Some word = ap keyword_of same ∙ keyword_found word in cc))
+name_found bytes (Some word) name e = inl (name, keyword_has (map to_ascii_lowercase bytes) word e)
+
+word_found : (bytes : List ℕ) → IsWord bytes → Found bytes (word_kind bytes)
+word_found bytes word = either_found bytes (nat_le (length bytes) 128) _ _
+    (λ short. name_found bytes (keyword_of (map to_ascii_lowercase bytes)) (word_is_name bytes word (leb-true _ _ short)) refl) (λ long. inr refl)
+
+mark_found : (b : ℕ) → Found (b ∷ []) (mark_kind b)
+mark_found b = either_found (b ∷ []) (b == 40) _ _ (λ e. inl (rw (eqb-true b 40 e) refl)) (λ other.
+    either_found (b ∷ []) (b == 41) _ _ (λ e. inl (rw (eqb-true b 41 e) refl)) (λ other2.
+    either_found (b ∷ []) (b == 44) _ _ (λ e. inl (rw (eqb-true b 44 e) refl)) (λ other3.
+    either_found (b ∷ []) (b == 42) _ _ (λ e. inl (rw (eqb-true b 42 e) refl)) (λ other4. inr refl))))
+
+nothing_goes_on : (b : ℕ) (bs : List ℕ) → is_ascii_digit b ≡ false → is_name_byte b ≡ false → IsPiece (b ∷ bs) → bs ≡ []
+nothing_goes_on b [] digit letter h = refl
+nothing_goes_on b (c ∷ cs) digit letter h = let stops : goes_on b c ≡ false = rw (letter, digit) refl in absurd (clash (list_all (goes_on b) (c ∷ cs)) h (rw stops refl))
+
+-- the kind that is found is spelled by the bytes, or bad
+found_kind : (b : ℕ) (bs : List ℕ) → IsPiece (b ∷ bs) → Found (b ∷ bs) (kind_of (b ∷ bs))
+found_kind b bs piece = either_found (b ∷ bs) (is_ascii_digit b) _ _
+    (λ digit. number_found (b ∷ bs) (digit, piece_of_digits (b ∷ bs) (omega arith) digit piece)) (λ other.
+    either_found (b ∷ bs) (is_name_byte b) _ _ (λ letter. word_found (b ∷ bs) (piece_is_word (b ∷ bs) (omega arith) other letter piece))
+    (λ dark. let alone : bs ≡ [] = nothing_goes_on b bs other dark piece in rw alone (mark_found b)))
+
+good_token : (bytes : List ℕ) (k : TokenKind) → Spells bytes k → IsToken bytes k
+good_token bytes (Key word) h = h
+good_token bytes (Named name) h = h
+good_token bytes (Number n) h = h
+good_token bytes (kind.Mark mark) h = h
+good_token bytes Bad h = absurd h
+good_token bytes End h = absurd h
+
+bad_token : (bytes : List ℕ) → kind_of bytes ≡ Bad → IsToken bytes Bad
+bad_token bytes bad = λ other h. let same : other ≡ Bad = sym (only_kind bytes other h) ∙ bad in subst (Spells bytes) same h
+
+is_token : (bytes : List ℕ) (k : TokenKind) → kind_of bytes ≡ k → Found bytes k → IsToken bytes k
+is_token bytes k same (inl h) = good_token bytes k h
+is_token bytes k same (inr bad) = subst (IsToken bytes) (sym bad) (bad_token bytes (same ∙ bad))
+
+-- a token is of the kind that is found
+token_is : (b : ℕ) (bs : List ℕ) (k : TokenKind) → IsPiece (b ∷ bs) → IsToken (b ∷ bs) k → kind_of (b ∷ bs) ≡ k
+token_is b bs (Key word) piece h = only_kind (b ∷ bs) (Key word) h
+token_is b bs (Named name) piece h = only_kind (b ∷ bs) (Named name) h
+token_is b bs (Number n) piece h = only_kind (b ∷ bs) (Number n) h
+token_is b bs (kind.Mark mark) piece h = only_kind (b ∷ bs) (kind.Mark mark) h
+token_is b bs End piece h = absurd h
+token_is b bs Bad piece h = elim (found_kind b bs piece) [ inl spelled ↦ absurd (h (kind_of (b ∷ bs)) spelled) | inr bad ↦ bad ]
+
+prefix_stops_one : (test : ℕ → Bool) (b : ℕ) (bs : List ℕ) (v : Bool) → test b ≡ v → starts test (drop (prefix_len test bs) bs) ≡ false → starts test (drop (cond v (1 + prefix_len test bs) 0) (b ∷ bs)) ≡ false
+prefix_stops_one test b bs true h ih = let e : 1 + prefix_len test bs ≡ suc (prefix_len test bs) = omega arith in rw e ih
+prefix_stops_one test b bs false h ih = h
+
+-- behind a front that passes a test comes a byte that doesn't
+prefix_stops : (test : ℕ → Bool) (bs : List ℕ) → starts test (drop (prefix_len test bs) bs) ≡ false
+prefix_stops test [] = refl
+prefix_stops test (b ∷ bs) = prefix_stops_one test b bs (test b) refl (prefix_stops test bs)
+
+prefix_none : (test : ℕ → Bool) (rest : List ℕ) → starts test rest ≡ false → prefix_len test rest ≡ 0
+prefix_none test [] h = refl
+prefix_none test (b ∷ bs) h = rw h refl
+
+both_hold : (v w : Bool) → (v && w) ≡ true → (v ≡ true) × (w ≡ true)
+both_hold true w h = (refl, h)
+both_hold false w h = cc
+
+-- so long is a front that passes a test, and behind which none passes
+prefix_exact : (test : ℕ → Bool) (more rest : List ℕ) → list_all test more ≡ true → starts test rest ≡ false → prefix_len test (more ++ rest) ≡ length more
+prefix_exact test [] rest all stop = prefix_none test rest stop
+prefix_exact test (b ∷ bs) rest all stop = let both = both_hold (test b) (list_all test bs) all in rw (both.0, prefix_exact test bs rest both.1 stop) (omega arith)
+
+white_lexes : (at b : ℕ) (bs : List ℕ) (ts : List Token) → is_white b ≡ true → Lexes (at + 1 + 0) bs ts → Lexes (at + 0) (b ∷ bs) ts
+white_lexes at b bs ts h i = rw add-zero (white at b bs ts h (rw add-zero at i))
+
+token_lexes : (at b : ℕ) (bs : List ℕ) (ts : List Token) → is_white b ≡ false → Lexes (at + 1 + prefix_len (goes_on b) bs) (drop (prefix_len (goes_on b) bs) bs) ts → Lexes (at + 0) (b ∷ bs) (token at (first_kind (b ∷ bs)) ∷ ts)
+token_lexes at b bs ts dark h =
+    let n : ℕ = prefix_len (goes_on b) bs in
+    let all : list_all (goes_on b) (take n bs) ≡ true = front_passes (goes_on b) bs in
+    let long : length (take n bs) ≡ n = length-take-le n bs (prefix_within (goes_on b) bs) in
+    let e : at + suc (length (take n bs)) ≡ at + 1 + n = omega (arith, long) in
+    let is : IsToken (b ∷ take n bs) (first_kind (b ∷ bs)) = rw add-one (is_token (b ∷ take n bs) _ refl (found_kind b (take n bs) all)) in
+    let whole : Lexes at (b ∷ (take n bs ++ drop n bs)) (token at (first_kind (b ∷ bs)) ∷ ts) = next at b (take n bs) (drop n bs) _ ts dark all (prefix_stops (goes_on b) bs) is (rw e h) in
+    rw add-zero (rw (take-append-drop n bs) at whole)
+
+first_lexes : (v : Bool) (at b : ℕ) (bs : List ℕ) → is_white b ≡ v → Lexes (at + 1 + 0) bs (cut 0 (at + 1) bs)
+    → Lexes (at + 1 + prefix_len (goes_on b) bs) (drop (prefix_len (goes_on b) bs) bs) (cut (prefix_len (goes_on b) bs) (at + 1) bs)
+    → Lexes (at + 0) (b ∷ bs) (joined v (cut 0 (at + 1) bs) (token at (first_kind (b ∷ bs))) (cut (prefix_len (goes_on b) bs) (at + 1) bs))
+first_lexes true at b bs h i j = white_lexes at b bs _ h i
+first_lexes false at b bs h i j = token_lexes at b bs _ h j
+
+cut_lexes_from : (n at : ℕ) (bs : List ℕ) → n ≤ length bs → Lexes (at + n) (drop n bs) (cut n at bs)
+unfolding cut
+cut_lexes_from zero at [] within = rw add-zero (end at)
+cut_lexes_from (suc n) at [] within = absurd (omega (arith, within))
+cut_lexes_from zero at (b ∷ bs) within = first_lexes (is_white b) at b bs refl (cut_lexes_from 0 (at + 1) bs (omega arith)) (cut_lexes_from (prefix_len (goes_on b) bs) (at + 1) bs (prefix_within (goes_on b) bs))
+cut_lexes_from (suc n) at (b ∷ bs) within = let e : at + suc n ≡ at + 1 + n = omega arith in rw e (cut_lexes_from n (at + 1) bs (omega (arith, within)))
+
+-- what is cut off is what the bytes are
+pub cut_lexes : (batch : List ℕ) → Lexes 0 batch (tokens_from batch 0)
+unfolding tokens_from
+cut_lexes batch = cut_lexes_from 0 0 batch (omega arith)
+
+cut_token : (at b : ℕ) (more rest : List ℕ) (k : TokenKind) → list_all (goes_on b) more ≡ true → starts (goes_on b) rest ≡ false → IsToken (b ∷ more) k
+    → token at (first_kind (b ∷ (more ++ rest))) ∷ cut (prefix_len (goes_on b) (more ++ rest)) (at + 1) (more ++ rest) ≡ token at k ∷ cut 0 (at + length (b ∷ more)) rest
+cut_token at b more rest k all stop is =
+    let n : prefix_len (goes_on b) (more ++ rest) ≡ length more = prefix_exact (goes_on b) more rest all stop in
+    let e : at + 1 + length more ≡ at + suc (length more) = omega arith in
+    let later : cut (length more) (at + 1) (more ++ rest) ≡ cut 0 (at + suc (length more)) rest
+    = cut_skip (length more) (at + 1) (more ++ rest) (simp length-append (omega arith)) ∙ rw (drop-append_seam more rest, e) refl in
+    rw (n, add-one, take-append_seam more rest, token_is b more k all is, later) refl
+
+-- the bytes are cut in one way
+pub lexes_cut : (at : ℕ) (bs : List ℕ) (ts : List Token) → Lexes at bs ts → ts ≡ cut 0 at bs
+unfolding cut
+lexes_cut at bs ts (end _) = refl
+lexes_cut at bs ts (white from b rest us w h) = rw w (lexes_cut (from + 1) rest us h)
+lexes_cut at bs ts (next from first more rest what us dark all stop is h) =
+    rw (dark, cut_token from first more rest what all stop is) (ap (λ (vs : List Token). token from what ∷ vs) (lexes_cut (from + length (first ∷ more)) rest us h))

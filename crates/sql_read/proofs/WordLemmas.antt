@@ -1,0 +1,74 @@
+-- The reserved word that some letters are.
+use Rattle.std.proofs.Common.{◌≡◌, ◌≢◌, ℕ, Bool, true, false, cond, List, [], ◌∷◌, refl, ap, sym, ◌∙◌, Option}
+use Rattle.std.specs.Prelude.{Some, None, find}
+use Rattle.std.specs.Str.{bytes_eq}
+use Rattle.std.proofs.lemmas.Slice.Eq.{bytes_eq-Decides}
+use Rattle.sql_read.specs.declared.keyword.Keyword.{Keyword}
+use Rattle.sql_read.specs.declared.keyword.Keyword.TheVariants.{And, As, Asc, Begin, Between, Bigint, By, Clustered, Commit, Constraint, Count, Create, Database, Delete, Desc, Drop, From, In, Insert, Int, Into, Is, Key, Not, Null, Of, On, Or, Order, Primary, Restore, Rollback, Select, Set, Sum, Table, Tran, Transaction, Update, Use, Values, Varchar, Where}
+use Rattle.sql_read.specs.Words.{text_of, keywords, keyword_of}
+
+-- each reserved word is found by its letters
+pub keyword_found : (word : Keyword) → keyword_of (text_of word) ≡ Some word
+keyword_found And = refl
+keyword_found As = refl
+keyword_found Asc = refl
+keyword_found Begin = refl
+keyword_found Between = refl
+keyword_found Bigint = refl
+keyword_found By = refl
+keyword_found Clustered = refl
+keyword_found Commit = refl
+keyword_found Constraint = refl
+keyword_found Count = refl
+keyword_found Create = refl
+keyword_found Database = refl
+keyword_found Delete = refl
+keyword_found Desc = refl
+keyword_found Drop = refl
+keyword_found From = refl
+keyword_found In = refl
+keyword_found Insert = refl
+keyword_found Int = refl
+keyword_found Into = refl
+keyword_found Is = refl
+keyword_found Key = refl
+keyword_found Not = refl
+keyword_found Null = refl
+keyword_found Of = refl
+keyword_found On = refl
+keyword_found Or = refl
+keyword_found Order = refl
+keyword_found Primary = refl
+keyword_found Restore = refl
+keyword_found Rollback = refl
+keyword_found Select = refl
+keyword_found Set = refl
+keyword_found Sum = refl
+keyword_found Table = refl
+keyword_found Tran = refl
+keyword_found Transaction = refl
+keyword_found Update = refl
+keyword_found Use = refl
+keyword_found Values = refl
+keyword_found Varchar = refl
+keyword_found Where = refl
+
+found_here : {X : Type 0} (test : X → Bool) (x y : X) (v : Bool) (o : Option X) → test y ≡ v → cond v (Some y) o ≡ Some x → (o ≡ Some x → test x ≡ true) → test x ≡ true
+found_here test x y true o h e later = let same : y ≡ x = cc in ap test (sym same) ∙ h
+found_here test x y false o h e later = later e
+
+found_passes : {X : Type 0} (test : X → Bool) (x : X) (xs : List X) → find test xs ≡ Some x → test x ≡ true
+found_passes test x [] e = cc
+found_passes test x (y ∷ ys) e = found_here test x y (test y) (find test ys) refl e (found_passes test x ys)
+
+-- what is found has the letters
+pub keyword_has : (letters : List ℕ) (word : Keyword) → keyword_of letters ≡ Some word → letters ≡ text_of word
+keyword_has letters word e = (bytes_eq-Decides letters (text_of word)).0 (found_passes (λ w. bytes_eq letters (text_of w)) word keywords e)
+
+none_of : {X : Type 0} (o : Option X) → ((x : X) → o ≡ Some x → ⊥) → o ≡ None
+none_of None h = refl
+none_of (Some x) h = absurd (h x refl)
+
+-- letters of no reserved word
+pub no_keyword : (letters : List ℕ) → ((word : Keyword) → letters ≢ text_of word) → keyword_of letters ≡ None
+no_keyword letters other = none_of (keyword_of letters) (λ word e. other word (keyword_has letters word e))

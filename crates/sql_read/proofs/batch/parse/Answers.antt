@@ -1,0 +1,24 @@
+use Rattle.std.proofs.Common.{[], ◌∷◌, ap, ◌∙◌, append_assoc, append-nil}
+use Rattle.sql_read.specs.Cut.{tokens_from}
+use Rattle.sql_read.specs.Tokens.{kinds}
+use Rattle.sql_read.proofs.CuttingLaws.{cut_lexes}
+use Rattle.sql_read.proofs.Soundness.{sound_stmt}
+use Rattle.sql_read.proofs.batch.parse.Goals as goal
+
+pub push-requires : goal.push-requires
+push-requires c = sound_stmt _ _ c.in_ok-stmt.ensures.spelled.is
+
+pub loop-parser-preserved : goal.loop-parser-preserved
+loop-parser-preserved c =
+    let read = c.in_ok-stmt.ensures.spelled in
+    record {
+      spelled = λ more h. rw (c.in_ok-push.ensures.ok, append_assoc) (c.loop-parser.invariant.spelled (c.in_ok-stmt.stmt ∷ more) (read.used, _, read.split, read.is, h));
+      passes = c.loop-parser.invariant.passes ∙ c.in_ok-stmt.ensures.passes;
+    }
+
+pub returns-clause-ok : goal.returns-clause-ok
+returns-clause-ok c = record {
+  tokens = tokens_from c.args.batch.now 0;
+  lexes = cut_lexes c.args.batch.now;
+  stmts_are = rw (← append-nil c.loop-parser.stmts) (c.loop-parser.invariant.spelled [] (ap kinds c.loop-parser-test.ensures));
+}

@@ -1,0 +1,40 @@
+-- Where a batch that isn't in the grammar is refused.
+use Rattle.std.specs.Prelude.{ℕ, ◌≡◌, ◌⊎◌, Bool, true, false, List, [], ◌∷◌, ◌++◌}
+use Rattle.plain_model.specs.declared.stmt.Stmt.{Stmt}
+use Rattle.sql_read.specs.declared.token.Mark.TheVariants as mark
+use Rattle.sql_read.specs.declared.token.Token.{Token}
+use Rattle.sql_read.specs.declared.token.TokenKind.{TokenKind}
+use Rattle.sql_read.specs.declared.token.TokenKind.TheVariants.{Mark}
+use Rattle.sql_read.specs.Tokens.{Lexes, kinds}
+use Rattle.sql_read.specs.Grammar.{AreStmts, IsBatch}
+use Rattle.sql_read.specs.Table.{start, run, Stops}
+
+-- a batch begins with these tokens
+pub record Begins (limited : Bool) (front : List TokenKind) : Type 0 where
+  pub rest : List TokenKind
+  pub stmts : List Stmt
+  pub whole : AreStmts limited (front ++ rest) stmts
+
+-- The token can't stand behind the front, with which a batch begins: no batch begins with both, however long its lists are.
+pub record CantStand (front : List TokenKind) (kind : TokenKind) : Type 0 where
+  pub before : Begins true front
+  pub none : Begins false (front ++ kind ∷ []) → ⊥
+
+-- A 65th part comes behind the front: it ends with a comma that only the limit forbids.
+pub record IsFull (front : List TokenKind) : Type 0 where
+  pub shorter : List TokenKind
+  pub front_is : front ≡ shorter ++ Mark mark.Comma ∷ []
+  pub before : Begins true shorter
+  pub over : Begins true front → ⊥
+  pub unlimited : Begins false front
+
+-- The batch isn't in the grammar, and the token at this place is the first that can't stand, or the first of the 65th part of a list.
+pub record IsRefusedAt (batch : List ℕ) (at : ℕ) : Type 0 where
+  pub front : List Token
+  pub token : Token
+  pub rest : List Token
+  pub lexes : Lexes 0 batch (front ++ token ∷ rest)
+  pub place : token.at ≡ at
+  pub why : CantStand (kinds front) token.kind ⊎ IsFull (kinds front)
+  pub stops : run true start (front ++ token ∷ rest) ≡ Stops at
+  pub none : (stmts : List Stmt) → IsBatch batch stmts → ⊥

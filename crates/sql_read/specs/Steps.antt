@@ -1,0 +1,82 @@
+-- What one step of reading does with the tokens that are left.
+use Rattle.std.specs.Prelude.{ℕ, ◌≡◌, ◌≤◌, ◌+◌, Bool, true, false, List, [], ◌∷◌, ◌++◌, length, map, flat_map, ℤ, pos, Result, Ok, Err}
+use Rattle.plain_model.specs.declared.expr.Expr as expr
+use Rattle.plain_model.specs.declared.expr.Expr.{Expr}
+use Rattle.plain_model.specs.declared.stmt.Stmt.{Stmt}
+use Rattle.page_base.specs.declared.column.Column.{Column}
+use Rattle.sql_read.specs.declared.keyword.Keyword.TheVariants as word
+use Rattle.sql_read.specs.declared.refusal.ParseRefusal.{ParseRefusal}
+use Rattle.sql_read.specs.declared.refusal.ParseRefusal.TheVariants.{Syntax, Memory}
+use Rattle.sql_read.specs.declared.token.Token.{Token}
+use Rattle.sql_read.specs.declared.token.TokenKind.{TokenKind}
+use Rattle.sql_read.specs.declared.token.TokenKind.TheVariants.{Key, Named, Number, End}
+use Rattle.sql_read.specs.Tokens.{token}
+use Rattle.sql_read.specs.Grammar.{IsStmt, more_number, more_column, key_column, plain_column}
+use Rattle.sql_read.specs.Table.{Verdict, Stops, is_end}
+
+-- a refusal names the place where the table stops
+abbrev pub FailsTo : ParseRefusal → Verdict → Type 0
+FailsTo Memory verdict = Unit {0}
+FailsTo (Syntax at) verdict = verdict ≡ Stops at
+
+-- What is read leads from one verdict to the other; what is refused is refused by the first.
+abbrev pub Passes : {X : Type 0} → Result X ParseRefusal → Verdict → Verdict → Type 0
+Passes (Ok x) before after = before ≡ after
+Passes (Err e) before after = FailsTo e before
+
+abbrev pub begins_with : (TokenKind → Bool) → List Token → Bool
+begins_with test [] = false
+begins_with test (t ∷ ts) = test t.kind
+
+abbrev pub first_place : List Token → ℕ
+first_place [] = 0
+first_place (t ∷ ts) = t.at
+
+-- whether the end alone is left
+abbrev pub IsEnd : Bool → List Token → Type 0
+IsEnd true ts = ts ≡ token (first_place ts) End ∷ []
+IsEnd false ts = begins_with is_end ts ≡ false
+
+-- the token was taken, or another stands there
+abbrev pub Eats : (TokenKind → Bool) → Bool → TokenKind → List Token → List Token → Type 0
+Eats test true kind old new = old ≡ token (first_place old) kind ∷ new
+Eats test false kind old new = (new ≡ old) × (begins_with test old ≡ false)
+
+-- a statement was read
+pub record Reads (stmt : Stmt) (old new : List TokenKind) : Type 0 where
+  pub used : List TokenKind
+  pub split : old ≡ used ++ new
+  pub is : IsStmt true used stmt
+
+-- the number that an expression is
+abbrev pub number_in : Expr → ℤ
+number_in (expr.Number n) = n
+number_in _ = pos 0
+
+-- a number
+abbrev pub ReadsNumber : Expr → List TokenKind → List TokenKind → Type 0
+ReadsNumber e old new = (e ≡ expr.Number (number_in e)) × (old ≡ Number (number_in e) ∷ new)
+
+-- number { , number }
+pub record ReadsNumbers (row : List Expr) (old new : List TokenKind) : Type 0 where
+  pub first : ℤ
+  pub others : List ℤ
+  pub row_is : row ≡ map (λ n. expr.Number n) (first ∷ others)
+  pub split : old ≡ Number first ∷ (flat_map more_number others ++ new)
+  pub few : length others + 1 ≤ 64
+
+-- name INT PRIMARY KEY
+abbrev pub ReadsKeyColumn : Column → List TokenKind → List TokenKind → Type 0
+ReadsKeyColumn column old new = (column ≡ key_column column.name) × (old ≡ Named column.name ∷ Key word.Int ∷ Key word.Primary ∷ Key word.Key ∷ new)
+
+-- name INT
+abbrev pub ReadsPlainColumn : Column → List TokenKind → List TokenKind → Type 0
+ReadsPlainColumn column old new = (column ≡ plain_column column.name) × (old ≡ Named column.name ∷ Key word.Int ∷ new)
+
+-- name INT PRIMARY KEY { , name INT }
+pub record ReadsColumns (cols : List Column) (old new : List TokenKind) : Type 0 where
+  pub first : List ℕ
+  pub others : List (List ℕ)
+  pub cols_are : cols ≡ key_column first ∷ map plain_column others
+  pub split : old ≡ Named first ∷ Key word.Int ∷ Key word.Primary ∷ Key word.Key ∷ (flat_map more_column others ++ new)
+  pub few : length others + 1 ≤ 64

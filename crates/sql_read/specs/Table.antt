@@ -1,0 +1,92 @@
+-- What may still come behind a front of a batch, token by token.
+use Rattle.std.specs.Prelude.{ℕ, ◌+◌, ◌≡◌, ◌==◌, nat_le, Bool, true, false, ◌&&◌, if◌then◌else◌, List, [], ◌∷◌, ◌++◌, Option, Some, None}
+use Rattle.sql_read.specs.declared.keyword.Keyword.{Keyword}
+use Rattle.sql_read.specs.declared.keyword.Keyword.TheVariants as word
+use Rattle.sql_read.specs.declared.token.Mark.{Mark}
+use Rattle.sql_read.specs.declared.token.Mark.TheVariants as mark
+use Rattle.sql_read.specs.declared.token.Token.{Token}
+use Rattle.sql_read.specs.declared.token.TokenKind.{TokenKind}
+use Rattle.sql_read.specs.declared.token.TokenKind.TheVariants as kind
+use Rattle.sql_read.specs.Words.{is_same}
+use Rattle.sql_read.specs.Tokens.{byte_of}
+
+pub data Symbol : Type 0 where
+  Key : (word : Keyword) → Symbol
+  Sign : (mark : Mark) → Symbol
+  AnyName : Symbol
+  AnyNumber : Symbol
+  -- one more part of a list, behind so many others
+  Part : (others : ℕ) → Symbol
+  -- further parts of a list that has so many
+  MoreNumbers : (parts : ℕ) → Symbol
+  MoreColumns : (parts : ℕ) → Symbol
+  MoreStmts : Symbol
+  Finish : Symbol
+
+abbrev pub is_key : Keyword → TokenKind → Bool
+is_key wanted (kind.Key found) = is_same found wanted
+is_key wanted _ = false
+
+abbrev pub is_mark : Mark → TokenKind → Bool
+is_mark wanted (kind.Mark found) = byte_of found == byte_of wanted
+is_mark wanted _ = false
+
+abbrev pub is_name : TokenKind → Bool
+is_name (kind.Named name) = true
+is_name _ = false
+
+abbrev pub is_number : TokenKind → Bool
+is_number (kind.Number n) = true
+is_number _ = false
+
+abbrev pub is_end : TokenKind → Bool
+is_end kind.End = true
+is_end _ = false
+
+-- behind CREATE
+abbrev pub create_rest : List Symbol
+create_rest = Key word.Table ∷ AnyName ∷ Sign mark.Open ∷ AnyName ∷ Key word.Int ∷ Key word.Primary ∷ Key word.Key ∷ MoreColumns 1 ∷ Sign mark.Close ∷ []
+
+-- behind INSERT
+abbrev pub insert_rest : List Symbol
+insert_rest = AnyName ∷ Key word.Values ∷ Sign mark.Open ∷ AnyNumber ∷ MoreNumbers 1 ∷ Sign mark.Close ∷ []
+
+-- behind SELECT
+abbrev pub select_rest : List Symbol
+select_rest = Sign mark.Star ∷ Key word.From ∷ AnyName ∷ []
+
+-- what may come behind this token, where these may come with it
+abbrev pub feed : Bool → List Symbol → TokenKind → Option (List Symbol)
+feed limited [] k = None
+feed limited (Key wanted ∷ st) k = if is_key wanted k then Some st else None
+feed limited (Sign wanted ∷ st) k = if is_mark wanted k then Some st else None
+feed limited (AnyName ∷ st) k = if is_name k then Some st else None
+feed limited (AnyNumber ∷ st) k = if is_number k then Some st else None
+feed limited (Part others ∷ st) k = if limited && nat_le 64 others then None else feed limited st k
+feed limited (MoreNumbers parts ∷ st) k = if is_mark mark.Comma k then Some (Part parts ∷ AnyNumber ∷ MoreNumbers (parts + 1) ∷ st) else feed limited st k
+feed limited (MoreColumns parts ∷ st) k = if is_mark mark.Comma k then Some (Part parts ∷ AnyName ∷ Key word.Int ∷ MoreColumns (parts + 1) ∷ st) else feed limited st k
+feed limited (MoreStmts ∷ st) k =
+    if is_key word.Use k then Some (AnyName ∷ MoreStmts ∷ st)
+    else (if is_key word.Create k then Some (create_rest ++ MoreStmts ∷ st)
+    else (if is_key word.Insert k then Some (insert_rest ++ MoreStmts ∷ st)
+    else (if is_key word.Select k then Some (select_rest ++ MoreStmts ∷ st)
+    else feed limited st k)))
+feed limited (Finish ∷ st) k = if is_end k then Some st else None
+
+-- what may come in a batch
+abbrev pub start : List Symbol
+start = MoreStmts ∷ Finish ∷ []
+
+-- all tokens may stand, or the one at this place is the first that can't
+pub data Verdict : Type 0 where
+  Whole : Verdict
+  Stops : (at : ℕ) → Verdict
+
+abbrev pub onward : (List Symbol → Verdict) → Option (List Symbol) → ℕ → Verdict
+onward go None at = Stops at
+onward go (Some st) at = go st
+
+-- reads tokens one by one
+abbrev pub run : Bool → List Symbol → List Token → Verdict
+run limited st [] = Whole
+run limited st (t ∷ ts) = onward (λ s. run limited s ts) (feed limited st t.kind) t.at

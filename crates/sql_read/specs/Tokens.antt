@@ -1,0 +1,77 @@
+-- The tokens of a batch, and where they stand.
+use Rattle.std.specs.Prelude.{ℕ, ◌+◌, ◌*◌, ◌-◌, ◌≤◌, ◌≡◌, ◌≢◌, Bool, true, false, ◌==◌, ◌||◌, ◌&&◌, if◌then◌else◌, List, [], ◌∷◌, ◌++◌, length, map, ℤ, pos}
+use Rattle.std.specs.List.{list_all}
+use Rattle.std.specs.Char.{to_ascii_lowercase, is_ascii_digit}
+use Rattle.page_base.specs.Name.{IsName, is_name_byte}
+use Rattle.sql_read.specs.declared.keyword.Keyword.{Keyword}
+use Rattle.sql_read.specs.declared.token.Mark.{Mark}
+use Rattle.sql_read.specs.declared.token.Mark.TheVariants.{Open, Close, Comma, Star}
+use Rattle.sql_read.specs.declared.token.Token.{Token}
+use Rattle.sql_read.specs.declared.token.TokenKind.{TokenKind}
+use Rattle.sql_read.specs.declared.token.TokenKind.TheVariants as kind
+use Rattle.sql_read.specs.Words.{text_of}
+
+-- space, tab and line feed
+abbrev pub is_white : ℕ → Bool
+is_white b = (b == 32 || b == 9) || b == 10
+
+-- whether a byte goes on with the token that began with another: a digit with digits, a letter or `_` with those and digits
+abbrev pub goes_on : ℕ → ℕ → Bool
+goes_on first b = if is_ascii_digit first then is_ascii_digit b else (is_name_byte first && is_name_byte b)
+
+-- whether the bytes begin with one that passes the test
+abbrev pub starts : (ℕ → Bool) → List ℕ → Bool
+starts test [] = false
+starts test (b ∷ bs) = test b
+
+-- the number that digits spell behind those of another number
+abbrev pub number_behind : ℕ → List ℕ → ℕ
+number_behind n [] = n
+number_behind n (d ∷ ds) = number_behind (n * 10 + (d - 48)) ds
+
+-- the number that digits spell
+abbrev pub number_of : List ℕ → ℕ
+number_of digits = number_behind 0 digits
+
+abbrev pub byte_of : Mark → ℕ
+byte_of Open = 40
+byte_of Close = 41
+byte_of Comma = 44
+byte_of Star = 42
+
+-- one or more digits
+abbrev pub AreDigits : List ℕ → Type 0
+AreDigits bytes = (starts is_ascii_digit bytes ≡ true) × (list_all is_ascii_digit bytes ≡ true)
+
+-- The bytes spell a token that has a place in the grammar: a reserved word in any case, another name, which is kept in lower case,
+-- a number of at most 2147483647, or a mark.
+abbrev pub Spells : List ℕ → TokenKind → Type 0
+Spells bytes (kind.Key word) = IsName bytes × (map to_ascii_lowercase bytes ≡ text_of word)
+Spells bytes (kind.Named name) = IsName bytes × (map to_ascii_lowercase bytes ≡ name) × ((word : Keyword) → name ≢ text_of word)
+Spells bytes (kind.Number n) = AreDigits bytes × (number_of bytes ≤ 2147483647) × (n ≡ pos (number_of bytes))
+Spells bytes (kind.Mark mark) = bytes ≡ byte_of mark ∷ []
+Spells bytes kind.Bad = ⊥
+Spells bytes kind.End = ⊥
+
+-- the bytes are a token of this kind, a bad one where they spell no other
+abbrev pub IsToken : List ℕ → TokenKind → Type 0
+IsToken bytes kind.Bad = (other : TokenKind) → Spells bytes other → ⊥
+IsToken bytes (kind.Key word) = Spells bytes (kind.Key word)
+IsToken bytes (kind.Named name) = Spells bytes (kind.Named name)
+IsToken bytes (kind.Number n) = Spells bytes (kind.Number n)
+IsToken bytes (kind.Mark mark) = Spells bytes (kind.Mark mark)
+IsToken bytes kind.End = ⊥
+
+abbrev pub token : ℕ → TokenKind → Token
+token at what = record { at = at; kind = what }
+
+-- The bytes from this place on are these tokens, parted by white space, and the end. Each token is as long as it can be.
+pub data Lexes : ℕ → List ℕ → List Token → Type 0 where
+  end : (at : ℕ) → Lexes at [] (token at kind.End ∷ [])
+  white : (at b : ℕ) (rest : List ℕ) (ts : List Token) → is_white b ≡ true → Lexes (at + 1) rest ts → Lexes at (b ∷ rest) ts
+  next : (at first : ℕ) (more rest : List ℕ) (what : TokenKind) (ts : List Token) → is_white first ≡ false
+      → list_all (goes_on first) more ≡ true → starts (goes_on first) rest ≡ false → IsToken (first ∷ more) what
+      → Lexes (at + length (first ∷ more)) rest ts → Lexes at (first ∷ more ++ rest) (token at what ∷ ts)
+
+abbrev pub kinds : List Token → List TokenKind
+kinds ts = map (λ t. t.kind) ts

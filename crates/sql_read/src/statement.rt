@@ -1,0 +1,189 @@
+//! What each kind of statement is made of.
+
+ghost use Rattle.std.specs.Prelude.{◌≡◌, ◌∷◌, ◌++◌, true, false, List, IfOk, map};
+ghost use Rattle.std.specs.List.{list_any};
+ghost use Rattle.std.specs.Str.{bytes_eq};
+ghost use Rattle.plain_model.specs.Sound.{are_distinct};
+ghost use Rattle.sql_read.specs.declared.keyword.Keyword.TheVariants as word;
+ghost use Rattle.sql_read.specs.declared.token.TokenKind.TheVariants as kind;
+ghost use Rattle.sql_read.specs.Tokens.{kinds};
+ghost use Rattle.sql_read.specs.Grammar.{without_twins};
+ghost use Rattle.sql_read.specs.Table.{Symbol, Key, AnyName, AnyNumber, MoreNumbers, MoreColumns, create_rest, insert_rest, select_rest, start, run, is_end};
+ghost use Rattle.sql_read.specs.Steps.{Passes, Reads, ReadsNumbers, ReadsColumns, ReadsKeyColumn, ReadsPlainColumn, begins_with};
+
+use crate::parser::Parser;
+use crate::{Keyword, Mark, ParseRefusal};
+use page_base::{ColType, Column, Columns, Name};
+use plain_model::{ExprList, ExprRows, InsertStmt, Items, Names, OrderList, SelectStmt, Stmt};
+use std::alloc::Global;
+
+// Whether one of the columns has the name.
+fn has_name(columns: &[Column], name: &Name) -> bool
+    ensures { result ≡ list_any (λ c. bytes_eq name.now c.name) columns.now }
+{
+    columns.iter().any(|column| name.is_same(&column.name))
+}
+
+// Whether no column has the name of another.
+fn are_distinct(columns: &[Column]) -> bool
+    ensures { result ≡ are_distinct (map (λ c. c.name) columns.now) }
+{
+    for (i, column) in columns.iter().enumerate() {
+        if has_name(&columns[i + 1..], &column.name) {
+            return false;
+        }
+    }
+    true
+}
+
+// The columns of a table, or none where a name stands twice.
+fn without_twins(alloc: Global, columns: Columns) -> Columns
+    ensures { result ≡ without_twins columns }
+{
+    if are_distinct(columns.as_slice()) {
+        columns
+    } else {
+        Columns::new(alloc)
+    }
+}
+
+impl Parser<'_> {
+    ghost use Rattle.sql_read.specs.Ahead.{left};
+
+    // name INT PRIMARY KEY
+    fn key_column(&mut self) -> Result<Column, ParseRefusal>
+        ensures spelled { IfOk result (λ column. ReadsKeyColumn column (kinds (left self.old)) (kinds (left self.new))) }
+        ensures passes { (st : List Symbol) → Passes result (run true (AnyName ∷ Key word.Int ∷ Key word.Primary ∷ Key word.Key ∷ st) (left self.old)) (run true st (left self.new)) }
+    {
+        let name = self.name()?;
+        self.key(Keyword::Int)?;
+        self.key(Keyword::Primary)?;
+        self.key(Keyword::Key)?;
+        Ok(Column {
+            name,
+            kind: ColType::Int,
+            nullable: false,
+            key: 1,
+        })
+    }
+
+    // name INT
+    fn plain_column(&mut self) -> Result<Column, ParseRefusal>
+        ensures spelled { IfOk result (λ column. ReadsPlainColumn column (kinds (left self.old)) (kinds (left self.new))) }
+        ensures passes { (st : List Symbol) → Passes result (run true (AnyName ∷ Key word.Int ∷ st) (left self.old)) (run true st (left self.new)) }
+    {
+        let name = self.name()?;
+        self.key(Keyword::Int)?;
+        Ok(Column {
+            name,
+            kind: ColType::Int,
+            nullable: true,
+            key: 0,
+        })
+    }
+
+    // name INT PRIMARY KEY { , name INT }
+    fn columns(&mut self, alloc: Global) -> Result<Columns, ParseRefusal>
+        ensures spelled { IfOk result (λ columns. ReadsColumns columns (kinds (left self.old)) (kinds (left self.new))) }
+        ensures passes { (st : List Symbol) → Passes result (run true (AnyName ∷ Key word.Int ∷ Key word.Primary ∷ Key word.Key ∷ MoreColumns 1 ∷ st) (left self.old)) (run true st (left self.new)) }
+    {
+        let mut columns = Columns::new(alloc);
+        let first = self.key_column()?;
+        columns.push(first)?;
+        while self.eat_comma() {
+            self.part(columns.len())?;
+            let column = self.plain_column()?;
+            columns.push(column)?;
+        }
+        Ok(columns)
+    }
+
+    // number { , number }
+    fn numbers(&mut self, alloc: Global) -> Result<ExprList, ParseRefusal>
+        ensures spelled { IfOk result (λ row. ReadsNumbers row (kinds (left self.old)) (kinds (left self.new))) }
+        ensures passes { (st : List Symbol) → Passes result (run true (AnyNumber ∷ MoreNumbers 1 ∷ st) (left self.old)) (run true st (left self.new)) }
+    {
+        let mut row = ExprList::new(alloc);
+        let first = self.number()?;
+        row.push(first)?;
+        while self.eat_comma() {
+            self.part(row.len())?;
+            let number = self.number()?;
+            row.push(number)?;
+        }
+        Ok(row)
+    }
+
+    // behind CREATE: TABLE name ( columns )
+    fn create(&mut self, alloc: Global) -> Result<Stmt, ParseRefusal>
+        ensures spelled { IfOk result (λ stmt. Reads stmt (kind.Key word.Create ∷ kinds (left self.old)) (kinds (left self.new))) }
+        ensures passes { (st : List Symbol) → Passes result (run true (create_rest ++ st) (left self.old)) (run true st (left self.new)) }
+    {
+        self.key(Keyword::Table)?;
+        let name = self.name()?;
+        self.mark(Mark::Open)?;
+        let columns = self.columns(alloc)?;
+        self.mark(Mark::Close)?;
+        Ok(Stmt::CreateTable(name, without_twins(alloc, columns)))
+    }
+
+    // behind INSERT: name VALUES ( numbers )
+    fn insert(&mut self, alloc: Global) -> Result<Stmt, ParseRefusal>
+        ensures spelled { IfOk result (λ stmt. Reads stmt (kind.Key word.Insert ∷ kinds (left self.old)) (kinds (left self.new))) }
+        ensures passes { (st : List Symbol) → Passes result (run true (insert_rest ++ st) (left self.old)) (run true st (left self.new)) }
+    {
+        let table = self.name()?;
+        self.key(Keyword::Values)?;
+        self.mark(Mark::Open)?;
+        let row = self.numbers(alloc)?;
+        self.mark(Mark::Close)?;
+        let cols = Names::new(alloc);
+        let mut rows = ExprRows::new(alloc);
+        rows.push(row)?;
+        Ok(Stmt::Insert(InsertStmt { table, cols, rows }))
+    }
+
+    // behind SELECT: * FROM name
+    fn select(&mut self, alloc: Global) -> Result<Stmt, ParseRefusal>
+        ensures spelled { IfOk result (λ stmt. Reads stmt (kind.Key word.Select ∷ kinds (left self.old)) (kinds (left self.new))) }
+        ensures passes { (st : List Symbol) → Passes result (run true (select_rest ++ st) (left self.old)) (run true st (left self.new)) }
+    {
+        self.mark(Mark::Star)?;
+        self.key(Keyword::From)?;
+        let table = self.name()?;
+        Ok(Stmt::Select(SelectStmt {
+            table,
+            items: Items::Star,
+            filter: None,
+            order: OrderList::new(alloc),
+        }))
+    }
+
+    // behind USE: name
+    fn use_database(&mut self) -> Result<Stmt, ParseRefusal>
+        ensures spelled { IfOk result (λ stmt. Reads stmt (kind.Key word.Use ∷ kinds (left self.old)) (kinds (left self.new))) }
+        ensures passes { (st : List Symbol) → Passes result (run true (AnyName ∷ st) (left self.old)) (run true st (left self.new)) }
+    {
+        let name = self.name()?;
+        Ok(Stmt::UseDb(name))
+    }
+
+    // Reads a statement, where the batch isn't at its end.
+    pub(crate) fn statement(&mut self, alloc: Global) -> Result<Stmt, ParseRefusal>
+        requires { begins_with is_end (left self.old) ≡ false }
+        ensures spelled { IfOk result (λ stmt. Reads stmt (kinds (left self.old)) (kinds (left self.new))) }
+        ensures passes { Passes result (run true start (left self.old)) (run true start (left self.new)) }
+    {
+        if self.eat_key(Keyword::Use) {
+            return self.use_database();
+        }
+        if self.eat_key(Keyword::Create) {
+            return self.create(alloc);
+        }
+        if self.eat_key(Keyword::Insert) {
+            return self.insert(alloc);
+        }
+        self.key(Keyword::Select)?;
+        self.select(alloc)
+    }
+}
