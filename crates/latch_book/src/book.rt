@@ -1,7 +1,7 @@
 //! The latch of each session, in an array with a place for each of them, so that no call takes memory.
 
 ghost use Rattle.std.specs.Prelude.{◌≡◌, ◌≢◌, ◌∷◌, None, OnOk, OnErr, IfErr, MatchOption, length};
-ghost use Rattle.latch_book.specs.Latches.{IsSession, IsLatchBook, IsFree, IsLowestInTheWay, latch_of, with_latch, without_latch, no_latches};
+ghost use Rattle.latch_book.specs.Latches.{IsSession, IsLatchBook, Holds, IsFree, IsLowestInTheWay, latch_of, with_latch, without_latch, no_latches};
 ghost use Rattle.latch_book.specs.Inside.{blocks};
 ghost use Rattle.page_base.specs.declared.numbers.SessNo.{SessNo};
 ghost use Rattle.latch_book.specs.declared.latch.LatchMode.TheVariants.{Sh, Ex};
@@ -76,6 +76,7 @@ impl LatchBook {
         requires session { IsSession who }
         requires none { latch_of self.old who ≡ None }
         ensures taken { OnOk result (self.new ≡ with_latch self.old who page mode) }
+        ensures holds { OnOk result (Holds self.new who page mode) }
         ensures free { OnOk result (IsFree self.old who page mode) }
         ensures held { IfErr result (λ held. IsLowestInTheWay self.old who page mode held.by) }
         ensures same { OnErr result (self.new ≡ self.old) }
@@ -97,6 +98,7 @@ impl LatchBook {
         requires session { IsSession who }
         requires none { latch_of self.old who ≡ None }
         ensures taken { OnOk result (self.new ≡ with_latch self.old who page Sh) }
+        ensures holds { OnOk result (Holds self.new who page Sh) }
         ensures free { OnOk result (IsFree self.old who page Sh) }
         ensures held { IfErr result (λ held. IsLowestInTheWay self.old who page Sh held.by) }
         ensures same { OnErr result (self.new ≡ self.old) }
@@ -112,6 +114,7 @@ impl LatchBook {
         requires session { IsSession who }
         requires none { latch_of self.old who ≡ None }
         ensures taken { OnOk result (self.new ≡ with_latch self.old who page Ex) }
+        ensures holds { OnOk result (Holds self.new who page Ex) }
         ensures free { OnOk result (IsFree self.old who page Ex) }
         ensures held { IfErr result (λ held. IsLowestInTheWay self.old who page Ex held.by) }
         ensures same { OnErr result (self.new ≡ self.old) }
