@@ -123,10 +123,10 @@ with_page-same pages p x d e =
     ∙ ap (set pages p.file) (set-get_or (get_or pages p.file []) p.page d)
     ∙ set-get_or pages p.file []
 
-is_page-same : (p : PageId) → is_page p p ≡ true
+pub is_page-same : (p : PageId) → is_page p p ≡ true
 is_page-same p = ap (λ b. b && p.page == p.page) (eq-eqb p.file p.file refl) ∙ eq-eqb p.page p.page refl
 
-is_page-other : (p q : PageId) → q ≢ p → is_page p q ≡ false
+pub is_page-other : (p q : PageId) → q ≢ p → is_page p q ≡ false
 is_page-other p q ne =
     elim (cases_eq p.file q.file) [
       | inl e ↦ elim (cases_eq p.page q.page) [

@@ -1,0 +1,2 @@
+pub mod LatchLemmas
+mod InTheWay

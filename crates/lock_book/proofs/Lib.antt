@@ -1,0 +1,4 @@
+pub mod LockLemmas
+mod Blockers
+mod Places
+mod Takes

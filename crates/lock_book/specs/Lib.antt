@@ -1,0 +1,4 @@
+pub mod Modes
+pub mod Locks
+pub mod Taking
+pub mod Inside
