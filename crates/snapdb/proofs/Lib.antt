@@ -4,3 +4,6 @@ mod KeyLemmas
 mod Inserting
 mod Stepping
 mod Running
+mod Writing
+mod Reading
+mod OneWord

@@ -1,3 +1,5 @@
 pub mod Opening
 pub mod Answers
 pub mod Running
+pub mod Script
+pub mod Headline

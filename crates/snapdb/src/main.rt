@@ -4,6 +4,11 @@
 mod answer;
 mod engine;
 mod key;
+mod script;
 mod store;
+mod stream;
+mod text;
+mod top;
+mod words;
 
 fn main(_rt: HostRuntime) {}

@@ -1,0 +1,14 @@
+-- Which bytes are no script.
+use Rattle.std.proofs.Common.{◌≡◌, ◌≤◌, ◌<◌, ◌⊎◌, inl, inr, ℕ, true, false, List, [], ◌∷◌, length, refl, ap, sym, ◌∙◌, arith, subst}
+use Rattle.std.specs.Prelude.{Some, None}
+use Rattle.plain_model.specs.declared.stmt.Stmt.{Stmt}
+use Rattle.sql_read.specs.Grammar.{IsBatch}
+use Rattle.snapdb.specs.Script.{Says, IsScript, batch_of}
+
+-- a batch that says nothing makes no script
+pub no_script : (bytes batch : List ℕ) (scripts : List (List Stmt)) → batch_of bytes ≡ Some batch → ((stmts : List Stmt) → Says batch stmts → ⊥) → IsScript bytes scripts → ⊥
+no_script bytes batch scripts is none h = let same : h.batch ≡ batch = cc (sym h.session ∙ is) in none h.stmts (subst (λ (b : List ℕ). Says b h.stmts) same h.says)
+
+-- a batch of more statements says nothing
+pub too_many : (batch : List ℕ) (stmts : List Stmt) → IsBatch batch stmts → 20000 < length stmts → (said : List Stmt) → Says batch said → ⊥
+too_many batch stmts is many said says = ?
