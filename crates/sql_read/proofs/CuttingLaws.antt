@@ -84,7 +84,7 @@ found_kind b bs piece = either_found (b ∷ bs) (is_ascii_digit b) _ _
     either_found (b ∷ bs) (is_name_byte b) _ _ (λ letter. word_found (b ∷ bs) (piece_is_word (b ∷ bs) (omega arith) other letter piece))
     (λ dark. let alone : bs ≡ [] = nothing_goes_on b bs other dark piece in rw alone (mark_found b)))
 
-good_token : (bytes : List ℕ) (k : TokenKind) → Spells bytes k → IsToken bytes k
+pub good_token : (bytes : List ℕ) (k : TokenKind) → Spells bytes k → IsToken bytes k
 good_token bytes (Key word) h = h
 good_token bytes (Named name) h = h
 good_token bytes (Number n) h = h

@@ -5,3 +5,8 @@ pub mod Passing
 pub mod Soundness
 pub mod CuttingLaws
 pub mod WordLemmas
+pub mod Reaching
+pub mod Meaning
+pub mod Refusing
+pub mod LawLemmas
+pub mod Writing

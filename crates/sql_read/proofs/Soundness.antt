@@ -45,6 +45,6 @@ twins false first others few h = refl
 -- a statement of the grammar is sound
 pub sound_stmt : (ks : List TokenKind) (s : Stmt) → IsStmt true ks s → is_sound s ≡ true
 sound_stmt ks s (use_database name) = refl
-sound_stmt ks s (create_table name first others few) = twins _ first others few refl
+sound_stmt ks s (create_table name first others few) = twins _ first others (few refl) refl
 sound_stmt ks s (insert_row name first others few) = rw (numbers_are_entries others) refl
 sound_stmt ks s (select_all name) = refl

@@ -36,7 +36,7 @@ pub reads_insert : (name : List ℕ) (row : List Expr) (old mid end new : List T
 reads_insert name row old mid end new front h close = record {
   used = Key word.Insert ∷ Named name ∷ Key word.Values ∷ Mark mark.Open ∷ Number h.first ∷ (flat_map more_number h.others ++ Mark mark.Close ∷ []);
   split = rw (front, h.split, close) (ap (λ (ks : List TokenKind). Key word.Insert ∷ Named name ∷ Key word.Values ∷ Mark mark.Open ∷ Number h.first ∷ ks) (sym (append_assoc (flat_map more_number h.others) (Mark mark.Close ∷ []) new)));
-  is = rw h.row_is (insert_row name h.first h.others h.few);
+  is = rw h.row_is (insert_row name h.first h.others (λ limited. h.few));
 }
 
 pub reads_create : (name : List ℕ) (cols : List Column) (old mid end new : List TokenKind) → old ≡ Key word.Table ∷ Named name ∷ Mark mark.Open ∷ mid → ReadsColumns cols mid end → end ≡ Mark mark.Close ∷ new
@@ -44,7 +44,7 @@ pub reads_create : (name : List ℕ) (cols : List Column) (old mid end new : Lis
 reads_create name cols old mid end new front h close = record {
   used = Key word.Create ∷ Key word.Table ∷ Named name ∷ Mark mark.Open ∷ Named h.first ∷ Key word.Int ∷ Key word.Primary ∷ Key word.Key ∷ (flat_map more_column h.others ++ Mark mark.Close ∷ []);
   split = rw (front, h.split, close) (ap (λ (ks : List TokenKind). Key word.Create ∷ Key word.Table ∷ Named name ∷ Mark mark.Open ∷ Named h.first ∷ Key word.Int ∷ Key word.Primary ∷ Key word.Key ∷ ks) (sym (append_assoc (flat_map more_column h.others) (Mark mark.Close ∷ []) new)));
-  is = rw h.cols_are (create_table name h.first h.others h.few);
+  is = rw h.cols_are (create_table name h.first h.others (λ limited. h.few));
 }
 
 pub number_one : (e : Expr) (old new : List TokenKind) → ReadsNumber e old new → ReadsNumbers (e ∷ []) old new

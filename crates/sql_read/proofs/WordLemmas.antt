@@ -1,11 +1,17 @@
 -- The reserved word that some letters are.
-use Rattle.std.proofs.Common.{◌≡◌, ◌≢◌, ℕ, Bool, true, false, cond, List, [], ◌∷◌, refl, ap, sym, ◌∙◌, Option}
-use Rattle.std.specs.Prelude.{Some, None, find}
+use Rattle.std.proofs.Common.{◌≡◌, ◌≢◌, ℕ, Bool, true, false, cond, List, [], ◌∷◌, refl, ap, sym, ◌∙◌, Option, length, map}
+use Rattle.std.specs.Prelude.{Some, None, find, nat_le}
+use Rattle.std.specs.Char.{to_ascii_lowercase}
+use Rattle.std.proofs.lemmas.Bool.{leb-true}
 use Rattle.std.specs.Str.{bytes_eq}
 use Rattle.std.proofs.lemmas.Slice.Eq.{bytes_eq-Decides}
 use Rattle.sql_read.specs.declared.keyword.Keyword.{Keyword}
 use Rattle.sql_read.specs.declared.keyword.Keyword.TheVariants.{And, As, Asc, Begin, Between, Bigint, By, Clustered, Commit, Constraint, Count, Create, Database, Delete, Desc, Drop, From, In, Insert, Int, Into, Is, Key, Not, Null, Of, On, Or, Order, Primary, Restore, Rollback, Select, Set, Sum, Table, Tran, Transaction, Update, Use, Values, Varchar, Where}
+use Rattle.sql_read.specs.declared.token.TokenKind.TheVariants as kind
 use Rattle.sql_read.specs.Words.{text_of, keywords, keyword_of}
+use Rattle.sql_read.specs.Tokens.{Spells}
+use Rattle.sql_read.specs.Cut.{IsWord}
+use Rattle.sql_read.proofs.Lexing.{word_is_name}
 
 -- each reserved word is found by its letters
 pub keyword_found : (word : Keyword) → keyword_of (text_of word) ≡ Some word
@@ -72,3 +78,60 @@ none_of (Some x) h = absurd (h x refl)
 -- letters of no reserved word
 pub no_keyword : (letters : List ℕ) → ((word : Keyword) → letters ≢ text_of word) → keyword_of letters ≡ None
 no_keyword letters other = none_of (keyword_of letters) (λ word e. other word (keyword_has letters word e))
+
+-- each reserved word has the form of a name in lower case
+abbrev pub HasNameForm : List ℕ → Type 0
+HasNameForm letters = IsWord letters × (nat_le (length letters) 128 ≡ true) × (map to_ascii_lowercase letters ≡ letters)
+
+pub keyword_form : (word : Keyword) → HasNameForm (text_of word)
+keyword_form And = ((refl, refl, refl), refl, refl)
+keyword_form As = ((refl, refl, refl), refl, refl)
+keyword_form Asc = ((refl, refl, refl), refl, refl)
+keyword_form Begin = ((refl, refl, refl), refl, refl)
+keyword_form Between = ((refl, refl, refl), refl, refl)
+keyword_form Bigint = ((refl, refl, refl), refl, refl)
+keyword_form By = ((refl, refl, refl), refl, refl)
+keyword_form Clustered = ((refl, refl, refl), refl, refl)
+keyword_form Commit = ((refl, refl, refl), refl, refl)
+keyword_form Constraint = ((refl, refl, refl), refl, refl)
+keyword_form Count = ((refl, refl, refl), refl, refl)
+keyword_form Create = ((refl, refl, refl), refl, refl)
+keyword_form Database = ((refl, refl, refl), refl, refl)
+keyword_form Delete = ((refl, refl, refl), refl, refl)
+keyword_form Desc = ((refl, refl, refl), refl, refl)
+keyword_form Drop = ((refl, refl, refl), refl, refl)
+keyword_form From = ((refl, refl, refl), refl, refl)
+keyword_form In = ((refl, refl, refl), refl, refl)
+keyword_form Insert = ((refl, refl, refl), refl, refl)
+keyword_form Int = ((refl, refl, refl), refl, refl)
+keyword_form Into = ((refl, refl, refl), refl, refl)
+keyword_form Is = ((refl, refl, refl), refl, refl)
+keyword_form Key = ((refl, refl, refl), refl, refl)
+keyword_form Not = ((refl, refl, refl), refl, refl)
+keyword_form Null = ((refl, refl, refl), refl, refl)
+keyword_form Of = ((refl, refl, refl), refl, refl)
+keyword_form On = ((refl, refl, refl), refl, refl)
+keyword_form Or = ((refl, refl, refl), refl, refl)
+keyword_form Order = ((refl, refl, refl), refl, refl)
+keyword_form Primary = ((refl, refl, refl), refl, refl)
+keyword_form Restore = ((refl, refl, refl), refl, refl)
+keyword_form Rollback = ((refl, refl, refl), refl, refl)
+keyword_form Select = ((refl, refl, refl), refl, refl)
+keyword_form Set = ((refl, refl, refl), refl, refl)
+keyword_form Sum = ((refl, refl, refl), refl, refl)
+keyword_form Table = ((refl, refl, refl), refl, refl)
+keyword_form Tran = ((refl, refl, refl), refl, refl)
+keyword_form Transaction = ((refl, refl, refl), refl, refl)
+keyword_form Update = ((refl, refl, refl), refl, refl)
+keyword_form Use = ((refl, refl, refl), refl, refl)
+keyword_form Values = ((refl, refl, refl), refl, refl)
+keyword_form Varchar = ((refl, refl, refl), refl, refl)
+keyword_form Where = ((refl, refl, refl), refl, refl)
+
+-- its own letters spell a reserved word
+pub keyword_spelled : (word : Keyword) → Spells (text_of word) (kind.Key word)
+keyword_spelled word = let form = keyword_form word in (word_is_name (text_of word) form.0 (leb-true _ _ form.1), form.2)
+
+-- other letters in lower case spell a name
+pub name_spelled : (letters : List ℕ) → HasNameForm letters → keyword_of letters ≡ None → Spells letters (kind.Named letters)
+name_spelled letters form other = (word_is_name letters form.0 (leb-true _ _ form.1), form.2, (λ word same. let found : keyword_of letters ≡ Some word = ap keyword_of same ∙ keyword_found word in cc))

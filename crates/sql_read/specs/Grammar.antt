@@ -35,8 +35,7 @@ without_twins columns = if are_distinct (map (λ c. c.name) columns) then column
 
 -- a list parted by commas has at most 64 parts, where this is limited
 abbrev pub MayHave : Bool → ℕ → Type 0
-MayHave true parts = parts ≤ 64
-MayHave false parts = Unit {0}
+MayHave limited parts = limited ≡ true → parts ≤ 64
 
 -- These tokens are a statement. The grammar may be limited or not in the number of parts of a list.
 pub data IsStmt (limited : Bool) : List TokenKind → Stmt → Type 0 where

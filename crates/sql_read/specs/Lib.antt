@@ -6,3 +6,4 @@ pub mod Table
 pub mod Place
 pub mod Ahead
 pub mod Steps
+pub mod Laws

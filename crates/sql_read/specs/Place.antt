@@ -1,6 +1,8 @@
 -- Where a batch that isn't in the grammar is refused.
 use Rattle.std.specs.Prelude.{ℕ, ◌≡◌, ◌⊎◌, Bool, true, false, List, [], ◌∷◌, ◌++◌}
 use Rattle.plain_model.specs.declared.stmt.Stmt.{Stmt}
+use Rattle.sql_read.specs.declared.refusal.ParseRefusal.{ParseRefusal}
+use Rattle.sql_read.specs.declared.refusal.ParseRefusal.TheVariants.{Syntax, Memory}
 use Rattle.sql_read.specs.declared.token.Mark.TheVariants as mark
 use Rattle.sql_read.specs.declared.token.Token.{Token}
 use Rattle.sql_read.specs.declared.token.TokenKind.{TokenKind}
@@ -11,9 +13,13 @@ use Rattle.sql_read.specs.Table.{start, run, Stops}
 
 -- a batch begins with these tokens
 pub record Begins (limited : Bool) (front : List TokenKind) : Type 0 where
-  pub rest : List TokenKind
+  pub batch : List ℕ
+  pub tokens : List Token
   pub stmts : List Stmt
-  pub whole : AreStmts limited (front ++ rest) stmts
+  pub rest : List TokenKind
+  pub lexes : Lexes 0 batch tokens
+  pub split : kinds tokens ≡ front ++ rest
+  pub whole : AreStmts limited (kinds tokens) stmts
 
 -- The token can't stand behind the front, with which a batch begins: no batch begins with both, however long its lists are.
 pub record CantStand (front : List TokenKind) (kind : TokenKind) : Type 0 where
@@ -38,3 +44,8 @@ pub record IsRefusedAt (batch : List ℕ) (at : ℕ) : Type 0 where
   pub why : CantStand (kinds front) token.kind ⊎ IsFull (kinds front)
   pub stops : run true start (front ++ token ∷ rest) ≡ Stops at
   pub none : (stmts : List Stmt) → IsBatch batch stmts → ⊥
+
+-- a refusal for want of memory, or at the right place
+abbrev pub IsRefusal : List ℕ → ParseRefusal → Type 0
+IsRefusal batch Memory = Unit {0}
+IsRefusal batch (Syntax at) = IsRefusedAt batch at

@@ -1,21 +1,20 @@
 //! Reading a batch whole.
 
-ghost use Rattle.std.specs.Prelude.{◌<◌, length, true, IfOk, IfErr};
-ghost use Rattle.sql_read.specs.Cut.{tokens_from};
+ghost use Rattle.std.specs.Prelude.{◌<◌, length, IfOk, IfErr};
 ghost use Rattle.sql_read.specs.Grammar.{IsBatch};
-ghost use Rattle.sql_read.specs.Table.{start, run};
-ghost use Rattle.sql_read.specs.Steps.{FailsTo};
+ghost use Rattle.sql_read.specs.Place.{IsRefusal};
 
 use crate::ParseRefusal;
 use crate::parser::Parser;
 use plain_model::StmtList;
 use std::alloc::Global;
 
-/// The statements of a batch.
+/// The statements of a batch. `Syntax` comes exactly where the batch isn't in the grammar, at the place of the first token
+/// that can't stand.
 pub fn parse(alloc: Global, batch: &[u8]) -> Result<StmtList, ParseRefusal>
     requires { length batch.now < 4294967295 }
-    ensures ok { IfOk result (λ stmts. IsBatch batch.now stmts) }
-    ensures syntax { IfErr result (λ e. FailsTo e (run true start (tokens_from batch.now 0))) }
+    ensures ok { IfOk result (IsBatch batch.now) }
+    ensures syntax { IfErr result (IsRefusal batch.now) }
 {
     let mut parser = Parser::new(batch);
     let mut stmts = StmtList::new(alloc);

@@ -3,6 +3,7 @@
 
 mod batch;
 mod keyword;
+mod law;
 mod lexer;
 mod parser;
 mod refusal;
@@ -11,5 +12,6 @@ mod token;
 
 pub use batch::parse;
 pub use keyword::Keyword;
+pub use law::{batches_have_one_reading, bytes_have_one_cutting, refusals_have_one_place};
 pub use refusal::ParseRefusal;
 pub use token::{Mark, Token, TokenKind};

@@ -2,6 +2,8 @@ use Rattle.std.proofs.Common.{[], ◌∷◌, ap, ◌∙◌, append_assoc, append
 use Rattle.sql_read.specs.Cut.{tokens_from}
 use Rattle.sql_read.specs.Tokens.{kinds}
 use Rattle.sql_read.proofs.CuttingLaws.{cut_lexes}
+use Rattle.std.proofs.lemmas.Result.{err_from_is_err_and}
+use Rattle.sql_read.proofs.Refusing.{refused_exit}
 use Rattle.sql_read.proofs.Soundness.{sound_stmt}
 use Rattle.sql_read.proofs.batch.parse.Goals as goal
 
@@ -22,3 +24,8 @@ returns-clause-ok c = record {
   lexes = cut_lexes c.args.batch.now;
   stmts_are = rw (← append-nil c.loop-parser.stmts) (c.loop-parser.invariant.spelled [] (ap kinds c.loop-parser-test.ensures));
 }
+
+pub returns-in_err-stmt-clause-syntax : goal.returns-in_err-stmt-clause-syntax
+returns-in_err-stmt-clause-syntax c =
+    let p = err_from_is_err_and c.from_residual.result c.from_residual.ensures.1 in
+    refused_exit c.args.batch.now _ _ _ _ p.1 p.2 c.loop-parser.invariant.passes c.in_err-stmt.ensures.passes

@@ -1,0 +1,210 @@
+-- What tokens may follow where some symbols are due, and that the table keeps to it.
+use Rattle.std.proofs.Common.{◌≡◌, ℕ, suc, ◌+◌, ◌<◌, ◌≤◌, Bool, true, false, cond, List, [], ◌∷◌, ◌++◌, length, arith, ap, sym, ◌∙◌, refl, subst, Option, append_assoc, add-zero, add-one, inl, inr, ◌⊎◌}
+use Rattle.std.specs.Prelude.{ℤ, pos, Some, None, nat_le, ◌&&◌, ◌==◌, flat_map, codes}
+use Rattle.std.proofs.lemmas.Slice.Eq.{bytes_eq-Decides}
+use Rattle.plain_model.specs.declared.stmt.Stmt.{Stmt}
+use Rattle.plain_model.specs.declared.stmt.Stmt.TheVariants.{UseDb}
+use Rattle.sql_read.specs.declared.keyword.Keyword.{Keyword}
+use Rattle.sql_read.specs.declared.keyword.Keyword.TheVariants as word
+use Rattle.sql_read.specs.declared.token.Mark.{Mark}
+use Rattle.sql_read.specs.declared.token.Mark.TheVariants as mark
+use Rattle.sql_read.specs.declared.token.TokenKind.{TokenKind}
+use Rattle.sql_read.specs.declared.token.TokenKind.TheVariants as kind
+use Rattle.sql_read.specs.declared.token.TokenKind.TheVariants.{Named, Number, End}
+use Rattle.sql_read.specs.Words.{text_of, is_same, keyword_of}
+use Rattle.sql_read.proofs.WordLemmas.{keyword_found, keyword_spelled, name_spelled}
+use Rattle.sql_read.specs.Tokens.{byte_of, Spells}
+use Rattle.sql_read.proofs.Writing.{AreSpelled}
+use Rattle.sql_read.specs.Grammar.{IsStmt, use_database, create_table, insert_row, select_all, AreStmts, MayHave, more_number, more_column}
+use Rattle.sql_read.specs.Table as symbol
+use Rattle.sql_read.specs.Table.{Symbol, Key, Sign, AnyName, AnyNumber, Part, MoreNumbers, MoreColumns, MoreStmts, Finish, is_key, is_mark, is_name, is_number, is_end, create_rest, insert_rest, select_rest, feed, start}
+
+-- statements one behind the other
+abbrev pub Behind : Bool → List TokenKind → List Stmt → Type 0
+Behind limited ks [] = ks ≡ []
+Behind limited ks (s ∷ ss) = (front : List TokenKind) × (rest : List TokenKind) × (ks ≡ front ++ rest) × IsStmt limited front s × Behind limited rest ss
+
+-- the tokens are what the symbols stand for
+abbrev pub Means : Bool → List Symbol → List TokenKind → Type 0
+Means limited [] ks = ks ≡ []
+Means limited (Key w ∷ st) ks = (rest : List TokenKind) × (ks ≡ kind.Key w ∷ rest) × Means limited st rest
+Means limited (Sign m ∷ st) ks = (rest : List TokenKind) × (ks ≡ kind.Mark m ∷ rest) × Means limited st rest
+Means limited (AnyName ∷ st) ks = (name : List ℕ) × (rest : List TokenKind) × (ks ≡ Named name ∷ rest) × Means limited st rest
+Means limited (AnyNumber ∷ st) ks = (n : ℤ) × (rest : List TokenKind) × (ks ≡ Number n ∷ rest) × Means limited st rest
+Means limited (Part others ∷ st) ks = Means limited st ks
+Means limited (MoreNumbers parts ∷ st) ks = (ns : List ℤ) × (rest : List TokenKind) × (ks ≡ flat_map more_number ns ++ rest) × MayHave limited (parts + length ns) × Means limited st rest
+Means limited (MoreColumns parts ∷ st) ks = (names : List (List ℕ)) × (rest : List TokenKind) × (ks ≡ flat_map more_column names ++ rest) × MayHave limited (parts + length names) × Means limited st rest
+Means limited (MoreStmts ∷ st) ks = (front : List TokenKind) × (rest : List TokenKind) × (ss : List Stmt) × (ks ≡ front ++ rest) × Behind limited front ss × Means limited st rest
+Means limited (Finish ∷ st) ks = (rest : List TokenKind) × (ks ≡ End ∷ rest) × Means limited st rest
+
+-- no list has too many parts yet
+abbrev pub IsOpen : Bool → List Symbol → Type 0
+IsOpen limited [] = Unit {0}
+IsOpen limited (MoreNumbers parts ∷ st) = MayHave limited parts × IsOpen limited st
+IsOpen limited (MoreColumns parts ∷ st) = MayHave limited parts × IsOpen limited st
+IsOpen limited (Part others ∷ st) = MayHave limited (others + 1) × IsOpen limited st
+IsOpen limited (Key w ∷ st) = IsOpen limited st
+IsOpen limited (Sign m ∷ st) = IsOpen limited st
+IsOpen limited (AnyName ∷ st) = IsOpen limited st
+IsOpen limited (AnyNumber ∷ st) = IsOpen limited st
+IsOpen limited (MoreStmts ∷ st) = IsOpen limited st
+IsOpen limited (Finish ∷ st) = IsOpen limited st
+
+-- what a test of the table lets pass
+same_word : (a b : Keyword) → is_same a b ≡ true → a ≡ b
+same_word a b h = let letters : text_of a ≡ text_of b = (bytes_eq-Decides (text_of a) (text_of b)).0 h in
+    let found : Some a ≡ Some b = sym (keyword_found a) ∙ ap keyword_of letters ∙ keyword_found b in cc
+
+key_is : (w : Keyword) (k : TokenKind) → is_key w k ≡ true → k ≡ kind.Key w
+key_is w (kind.Key found) h = ap kind.Key (same_word found w h)
+key_is w (Named name) h = cc
+key_is w (Number n) h = cc
+key_is w (kind.Mark m) h = cc
+key_is w kind.Bad h = cc
+key_is w End h = cc
+
+same_mark : (a b : Mark) → (byte_of a == byte_of b) ≡ true → a ≡ b
+same_mark mark.Open mark.Open h = refl
+same_mark mark.Close mark.Close h = refl
+same_mark mark.Comma mark.Comma h = refl
+same_mark mark.Star mark.Star h = refl
+same_mark _ _ h = cc
+
+pub mark_is : (m : Mark) (k : TokenKind) → is_mark m k ≡ true → k ≡ kind.Mark m
+mark_is m (kind.Mark found) h = ap kind.Mark (same_mark found m h)
+mark_is m (kind.Key w) h = cc
+mark_is m (Named name) h = cc
+mark_is m (Number n) h = cc
+mark_is m kind.Bad h = cc
+mark_is m End h = cc
+
+name_is : (k : TokenKind) → is_name k ≡ true → (name : List ℕ) × (k ≡ Named name)
+name_is (Named name) h = (name, refl)
+name_is (kind.Key w) h = cc
+name_is (Number n) h = cc
+name_is (kind.Mark m) h = cc
+name_is kind.Bad h = cc
+name_is End h = cc
+
+number_is : (k : TokenKind) → is_number k ≡ true → (n : ℤ) × (k ≡ Number n)
+number_is (Number n) h = (n, refl)
+number_is (Named name) h = cc
+number_is (kind.Key w) h = cc
+number_is (kind.Mark m) h = cc
+number_is kind.Bad h = cc
+number_is End h = cc
+
+end_is : (k : TokenKind) → is_end k ≡ true → k ≡ End
+end_is End h = refl
+end_is (Number n) h = cc
+end_is (Named name) h = cc
+end_is (kind.Key w) h = cc
+end_is (kind.Mark m) h = cc
+end_is kind.Bad h = cc
+
+pub passed : (v : Bool) (st s : List Symbol) → cond v (Some st) None ≡ Some s → (v ≡ true) × (st ≡ s)
+passed true st s e = (refl, cc)
+passed false st s e = cc
+
+pub either : (v : Bool) (st s : List Symbol) (o : Option (List Symbol)) → cond v (Some st) o ≡ Some s → ((v ≡ true) × (st ≡ s)) ⊎ (o ≡ Some s)
+either true st s o e = inl (refl, cc)
+either false st s o e = inr e
+
+pub not_full : (v : Bool) (s : List Symbol) (o : Option (List Symbol)) → cond v None o ≡ Some s → o ≡ Some s
+not_full true s o e = cc
+not_full false s o e = e
+
+means_same : (limited : Bool) (st s : List Symbol) (ks : List TokenKind) → st ≡ s → Means limited s ks → Means limited st ks
+means_same limited st s ks e h = subst (λ (u : List Symbol). Means limited u ks) (sym e) h
+
+numbers_back : (limited : Bool) (parts : ℕ) (st : List Symbol) (ks : List TokenKind) → Means limited (AnyNumber ∷ MoreNumbers (parts + 1) ∷ st) ks → Means limited (MoreNumbers parts ∷ st) (kind.Mark mark.Comma ∷ ks)
+numbers_back limited parts st ks (n, r, e, (ns, rest, f, may, h)) = (n ∷ ns, rest, rw (e, f) refl, (λ l. omega (arith, may l)), h)
+
+columns_back : (limited : Bool) (parts : ℕ) (st : List Symbol) (ks : List TokenKind) → Means limited (AnyName ∷ Key word.Int ∷ MoreColumns (parts + 1) ∷ st) ks → Means limited (MoreColumns parts ∷ st) (kind.Mark mark.Comma ∷ ks)
+columns_back limited parts st ks (n, r, e, (r2, e2, (ns, rest, f, may, h))) = (n ∷ ns, rest, rw (e, e2, f) refl, (λ l. omega (arith, may l)), h)
+
+-- a statement before others
+more_behind : (limited : Bool) (used ks : List TokenKind) (s : Stmt) (st : List Symbol) → IsStmt limited used s → Means limited (MoreStmts ∷ st) ks → Means limited (MoreStmts ∷ st) (used ++ ks)
+more_behind limited used ks s st is (front, rest, ss, e, behind, h) = (used ++ front, rest, s ∷ ss, rw e (sym (append_assoc used front rest)), (used, front, refl, is, behind), h)
+
+use_back : (limited : Bool) (st : List Symbol) (ks : List TokenKind) → Means limited (AnyName ∷ MoreStmts ∷ st) ks → Means limited (MoreStmts ∷ st) (kind.Key word.Use ∷ ks)
+use_back limited st ks (name, r, e, h) = rw e (more_behind limited _ r _ st (use_database name) h)
+
+create_back : (limited : Bool) (st : List Symbol) (ks : List TokenKind) → Means limited (create_rest ++ MoreStmts ∷ st) ks → Means limited (MoreStmts ∷ st) (kind.Key word.Create ∷ ks)
+create_back limited st ks (r0, e0, (name, r1, e1, (r2, e2, (first, r3, e3, (r4, e4, (r5, e5, (r6, e6, (names, r7, e7, may, (r8, e8, h))))))))) =
+    let used : List TokenKind = kind.Key word.Create ∷ kind.Key word.Table ∷ Named name ∷ kind.Mark mark.Open ∷ Named first ∷ kind.Key word.Int ∷ kind.Key word.Primary ∷ kind.Key word.Key ∷ (flat_map more_column names ++ kind.Mark mark.Close ∷ []) in
+    let whole : kind.Key word.Create ∷ ks ≡ used ++ r8 = rw (e0, e1, e2, e3, e4, e5, e6, e7, e8) (ap (λ (js : List TokenKind). kind.Key word.Create ∷ kind.Key word.Table ∷ Named name ∷ kind.Mark mark.Open ∷ Named first ∷ kind.Key word.Int ∷ kind.Key word.Primary ∷ kind.Key word.Key ∷ js) (sym (append_assoc (flat_map more_column names) (kind.Mark mark.Close ∷ []) r8))) in
+    subst (λ (js : List TokenKind). Means limited (MoreStmts ∷ st) js) (sym whole) (more_behind limited used r8 _ st (create_table name first names (λ l. omega (arith, may l))) h)
+
+insert_back : (limited : Bool) (st : List Symbol) (ks : List TokenKind) → Means limited (insert_rest ++ MoreStmts ∷ st) ks → Means limited (MoreStmts ∷ st) (kind.Key word.Insert ∷ ks)
+insert_back limited st ks (name, r1, e1, (r2, e2, (r3, e3, (n, r4, e4, (ns, r5, e5, may, (r6, e6, h)))))) =
+    let used : List TokenKind = kind.Key word.Insert ∷ Named name ∷ kind.Key word.Values ∷ kind.Mark mark.Open ∷ Number n ∷ (flat_map more_number ns ++ kind.Mark mark.Close ∷ []) in
+    let whole : kind.Key word.Insert ∷ ks ≡ used ++ r6 = rw (e1, e2, e3, e4, e5, e6) (ap (λ (js : List TokenKind). kind.Key word.Insert ∷ Named name ∷ kind.Key word.Values ∷ kind.Mark mark.Open ∷ Number n ∷ js) (sym (append_assoc (flat_map more_number ns) (kind.Mark mark.Close ∷ []) r6))) in
+    subst (λ (js : List TokenKind). Means limited (MoreStmts ∷ st) js) (sym whole) (more_behind limited used r6 _ st (insert_row name n ns (λ l. omega (arith, may l))) h)
+
+select_back : (limited : Bool) (st : List Symbol) (ks : List TokenKind) → Means limited (select_rest ++ MoreStmts ∷ st) ks → Means limited (MoreStmts ∷ st) (kind.Key word.Select ∷ ks)
+select_back limited st ks (r0, e0, (r1, e1, (name, r2, e2, h))) = rw (e0, e1, e2) (more_behind limited _ r2 _ st (select_all name) h)
+
+-- behind the token that a symbol was opened by
+opened : (limited : Bool) (st s opens : List Symbol) (k j : TokenKind) (ks : List TokenKind) → k ≡ j → opens ≡ s → (Means limited opens ks → Means limited st (j ∷ ks)) → Means limited s ks → Means limited st (k ∷ ks)
+opened limited st s opens k j ks e same back h = subst (λ (i : TokenKind). Means limited st (i ∷ ks)) (sym e) (back (means_same limited opens s ks same h))
+
+stmts_back : (limited : Bool) (st s : List Symbol) (k : TokenKind) (ks : List TokenKind) (o : Option (List Symbol)) → (o ≡ Some s → Means limited (MoreStmts ∷ st) (k ∷ ks)) → Means limited s ks
+    → cond (is_key word.Use k) (Some (AnyName ∷ MoreStmts ∷ st)) (cond (is_key word.Create k) (Some (create_rest ++ MoreStmts ∷ st)) (cond (is_key word.Insert k) (Some (insert_rest ++ MoreStmts ∷ st)) (cond (is_key word.Select k) (Some (select_rest ++ MoreStmts ∷ st)) o))) ≡ Some s
+    → Means limited (MoreStmts ∷ st) (k ∷ ks)
+stmts_back limited st s k ks o other h e = elim (either (is_key word.Use k) _ s _ e) [
+  inl p ↦ opened limited (MoreStmts ∷ st) s _ k _ ks (key_is word.Use k p.0) p.1 (use_back limited st ks) h
+  | inr f ↦ elim (either (is_key word.Create k) _ s _ f) [
+    inl p ↦ opened limited (MoreStmts ∷ st) s _ k _ ks (key_is word.Create k p.0) p.1 (create_back limited st ks) h
+    | inr g ↦ elim (either (is_key word.Insert k) _ s _ g) [
+      inl p ↦ opened limited (MoreStmts ∷ st) s _ k _ ks (key_is word.Insert k p.0) p.1 (insert_back limited st ks) h
+      | inr i ↦ elim (either (is_key word.Select k) _ s _ i) [
+        inl p ↦ opened limited (MoreStmts ∷ st) s _ k _ ks (key_is word.Select k p.0) p.1 (select_back limited st ks) h
+        | inr l ↦ other l
+        ]
+      ]
+    ]
+  ]
+
+-- what may follow a token that the table takes may follow before it with the token
+pub step_back : (limited : Bool) (st s : List Symbol) (k : TokenKind) (ks : List TokenKind) → IsOpen limited st → feed limited st k ≡ Some s → Means limited s ks → Means limited st (k ∷ ks)
+step_back limited [] s k ks room e h = cc
+step_back limited (Key w ∷ st) s k ks room e h = let p = passed (is_key w k) st s e in (ks, ap (λ (j : TokenKind). j ∷ ks) (key_is w k p.0), means_same limited st s ks p.1 h)
+step_back limited (Sign m ∷ st) s k ks room e h = let p = passed (is_mark m k) st s e in (ks, ap (λ (j : TokenKind). j ∷ ks) (mark_is m k p.0), means_same limited st s ks p.1 h)
+step_back limited (AnyName ∷ st) s k ks room e h = let p = passed (is_name k) st s e in let n = name_is k p.0 in (n.0, ks, ap (λ (j : TokenKind). j ∷ ks) n.1, means_same limited st s ks p.1 h)
+step_back limited (AnyNumber ∷ st) s k ks room e h = let p = passed (is_number k) st s e in let n = number_is k p.0 in (n.0, ks, ap (λ (j : TokenKind). j ∷ ks) n.1, means_same limited st s ks p.1 h)
+step_back limited (Finish ∷ st) s k ks room e h = let p = passed (is_end k) st s e in (ks, ap (λ (j : TokenKind). j ∷ ks) (end_is k p.0), means_same limited st s ks p.1 h)
+step_back limited (Part others ∷ st) s k ks room e h = step_back limited st s k ks room.1 (not_full (limited && nat_le 64 others) s (feed limited st k) e) h
+step_back limited (MoreNumbers parts ∷ st) s k ks room e h = elim (either (is_mark mark.Comma k) _ s (feed limited st k) e) [
+  inl p ↦ opened limited (MoreNumbers parts ∷ st) s _ k _ ks (mark_is mark.Comma k p.0) p.1 (numbers_back limited parts st ks) h
+  | inr f ↦ ([], k ∷ ks, refl, (λ l. omega (arith, room.0 l)), step_back limited st s k ks room.1 f h)
+  ]
+step_back limited (MoreColumns parts ∷ st) s k ks room e h = elim (either (is_mark mark.Comma k) _ s (feed limited st k) e) [
+  inl p ↦ opened limited (MoreColumns parts ∷ st) s _ k _ ks (mark_is mark.Comma k p.0) p.1 (columns_back limited parts st ks) h
+  | inr f ↦ ([], k ∷ ks, refl, (λ l. omega (arith, room.0 l)), step_back limited st s k ks room.1 f h)
+  ]
+step_back limited (MoreStmts ∷ st) s k ks room e h = stmts_back limited st s k ks (feed limited st k) (λ f. ([], k ∷ ks, [], refl, refl, step_back limited st s k ks room f h)) h e
+
+-- what stands for a symbol at the least
+abbrev pub Completes : Bool → List Symbol → Type 0
+Completes limited st = (ks : List TokenKind) × AreSpelled ks × Means limited st ks
+
+pub complete : (limited : Bool) (st : List Symbol) → IsOpen limited st → Completes limited st
+complete limited [] room = ([], tt, refl)
+complete limited (Key w ∷ st) room = let c = complete limited st room in (kind.Key w ∷ c.0, (inr (text_of w, keyword_spelled w), c.1), (c.0, refl, c.2))
+complete limited (Sign m ∷ st) room = let c = complete limited st room in (kind.Mark m ∷ c.0, (inr (byte_of m ∷ [], refl), c.1), (c.0, refl, c.2))
+complete limited (AnyName ∷ st) room = let c = complete limited st room in (Named (codes "a") ∷ c.0, (inr (codes "a", name_spelled (codes "a") ((refl, refl, refl), refl, refl) refl), c.1), (codes "a", c.0, refl, c.2))
+complete limited (AnyNumber ∷ st) room = let c = complete limited st room in (Number (pos 0) ∷ c.0, (inr (codes "0", ((refl, refl), omega arith, refl)), c.1), (pos 0, c.0, refl, c.2))
+complete limited (Part others ∷ st) room = complete limited st room.1
+complete limited (MoreNumbers parts ∷ st) room = let c = complete limited st room.1 in (c.0, c.1, ([], c.0, refl, (λ l. omega (arith, room.0 l)), c.2))
+complete limited (MoreColumns parts ∷ st) room = let c = complete limited st room.1 in (c.0, c.1, ([], c.0, refl, (λ l. omega (arith, room.0 l)), c.2))
+complete limited (MoreStmts ∷ st) room = let c = complete limited st room in (c.0, c.1, ([], c.0, [], refl, refl, c.2))
+complete limited (Finish ∷ st) room = let c = complete limited st room in (End ∷ c.0, (inl refl, c.1), (c.0, refl, c.2))
+
+behind_end : (limited : Bool) (front rest : List TokenKind) (ss : List Stmt) → Behind limited front ss → rest ≡ End ∷ [] → AreStmts limited (front ++ rest) ss
+behind_end limited front rest [] h e = rw h e
+behind_end limited front rest (s ∷ ss) (used, more, split, is, behind) e = (used, more ++ rest, rw split (append_assoc used more rest), is, behind_end limited more rest ss behind e)
+
+-- what may come in a batch is a batch
+pub means_batch : (limited : Bool) (ks : List TokenKind) → Means limited start ks → (ss : List Stmt) × AreStmts limited ks ss
+means_batch limited ks (front, rest, ss, e, behind, (last, f, g)) = (ss, rw e (behind_end limited front rest ss behind (rw (f, g) refl)))
