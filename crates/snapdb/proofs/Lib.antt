@@ -7,3 +7,4 @@ mod Running
 mod Writing
 mod Reading
 mod OneWord
+mod Refusals

@@ -3,6 +3,7 @@ use Rattle.std.proofs.Common.{◌≡◌, ◌≤◌, ◌<◌, ◌⊎◌, inl, inr
 use Rattle.std.specs.Prelude.{Some, None}
 use Rattle.plain_model.specs.declared.stmt.Stmt.{Stmt}
 use Rattle.sql_read.specs.Grammar.{IsBatch}
+use Rattle.sql_read.proofs.LawLemmas.{one_reading}
 use Rattle.snapdb.specs.Script.{Says, IsScript, batch_of}
 
 -- a batch that says nothing makes no script
@@ -11,4 +12,5 @@ no_script bytes batch scripts is none h = let same : h.batch ≡ batch = cc (sym
 
 -- a batch of more statements says nothing
 pub too_many : (batch : List ℕ) (stmts : List Stmt) → IsBatch batch stmts → 20000 < length stmts → (said : List Stmt) → Says batch said → ⊥
-too_many batch stmts is many said says = ?
+too_many batch stmts is many said (inl h) = let same : length stmts ≡ length said = ap length (one_reading batch stmts said is h.0) in absurd (omega (arith, h.1))
+too_many batch stmts is many said (inr h) = h.1.none stmts is

@@ -3,3 +3,4 @@ pub mod Answers
 pub mod Running
 pub mod Script
 pub mod Headline
+pub mod Refusing

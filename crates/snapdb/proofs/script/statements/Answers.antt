@@ -7,4 +7,4 @@ pub returns-in-Ok-2-clause-unbuilt : goal.returns-in-Ok-2-clause-unbuilt
 returns-in-Ok-2-clause-unbuilt c = λ e. too_many c.args.batch.now c.in-Ok.stmts c.in-Ok.ensures.ok (omega arith)
 
 pub returns-in-Err-Syntax-clause-ok : goal.returns-in-Err-Syntax-clause-ok
-returns-in-Err-Syntax-clause-ok c = IfOk-weaker c.broken.result _ _ (λ stmts is. inr (c.in-Err-Syntax.at, rw c.in-Err-Syntax.is at c.parse.ensures.syntax, is)) c.broken.ensures.ok
+returns-in-Err-Syntax-clause-ok c = IfOk-weaker c.broken.result _ _ (λ stmts is. inr (c.in-Err-Syntax.at, rw (c.in-Err-Syntax.is, c.in-Err-Syntax.field-0-is) at c.parse.ensures.syntax, is)) c.broken.ensures.ok
