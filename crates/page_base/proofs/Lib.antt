@@ -2,4 +2,7 @@ mod Lowered
 pub mod FileNameLemmas
 mod LastPart
 pub mod PagesLemmas
+pub mod SlotsLemmas
+pub mod FormatLemmas
+pub mod ManyLemmas
 pub mod Ordered

@@ -1,10 +1,11 @@
 -- Writing a name in lower case into its array, byte by byte.
-use Rattle.std.proofs.Common.{◌≡◌, ℕ, ◌+◌, ◌-◌, ◌<◌, ◌≤◌, List, length, get_or, take, drop, set, map, replicate, refl, ap, sym, ◌∙◌, arith, length-append}
+use Rattle.std.proofs.Common.{◌≡◌, ℕ, ◌+◌, ◌-◌, ◌<◌, ◌≤◌, List, [], ◌∷◌, length, get_or, take, drop, set, map, replicate, refl, ap, sym, ◌∙◌, arith, length-append}
 use Rattle.std.specs.Prelude.{slice_index}
 use Rattle.std.proofs.Common.{true, false, length-set}
 use Rattle.std.proofs.lemmas.List.{length-map, length-replicate, get_or-map}
 use Rattle.std.specs.Char.{to_ascii_lowercase, is_ascii_digit}
 use Rattle.std.proofs.lemmas.Bool.Decides.{nat_tests}
+use Rattle.std.proofs.lemmas.Str.Ascii.{lowercase-lowercase}
 use Rattle.std.proofs.lemmas.List.Elements.{All-map, All-weaker}
 use Rattle.std.proofs.Math.Seq.{take-append_seam}
 use Rattle.page_base.specs.Name.{IsName, is_name_byte, padded}
@@ -42,6 +43,11 @@ name-lower bs h = record {
   each = All-map (λ c. is_name_byte c ≡ true) to_ascii_lowercase bs (All-weaker (λ c. is_name_byte c ≡ true) (λ c. is_name_byte (to_ascii_lowercase c) ≡ true) name_byte-lower bs h.each);
 }
 
+-- lower case once more changes nothing
+low-low : (bs : List ℕ) → map to_ascii_lowercase (map to_ascii_lowercase bs) ≡ map to_ascii_lowercase bs
+low-low [] = refl
+low-low (b ∷ bs) = λ i. lowercase-lowercase b i ∷ low-low bs i
+
 pub stored : (bs : List ℕ) → length bs ≤ 128 → IsName bs → IsStoredName (padded (map to_ascii_lowercase bs)) (length bs)
 stored bs short name =
     let low : List ℕ = map to_ascii_lowercase bs in
@@ -53,5 +59,5 @@ stored bs short name =
         within = short;
         zeros = ap padded (sym front);
       };
-      name = rw front (name-lower bs name);
+      name = rw front (record { name = name-lower bs name; low = low-low bs });
     }

@@ -1,7 +1,7 @@
 -- How a name lies in its array of 128 bytes: its bytes, and zeros behind them.
 use Rattle.std.specs.Prelude.{ℕ, ◌≡◌, ◌≤◌, List, length, take}
 use Rattle.std.proofs.Common.{arith, sym, length-take}
-use Rattle.page_base.specs.Name.{IsName, padded}
+use Rattle.page_base.specs.Name.{IsLowName, padded}
 use Rattle.page_base.specs.FileName.{IsFileName}
 
 pub record IsStored (bytes : List ℕ) (len : ℕ) : Type 0 where
@@ -9,10 +9,10 @@ pub record IsStored (bytes : List ℕ) (len : ℕ) : Type 0 where
   pub within : len ≤ 128
   pub zeros : bytes ≡ padded (take len bytes)
 
--- the array holds a name
+-- the array holds a name in lower case
 pub record IsStoredName (bytes : List ℕ) (len : ℕ) : Type 0 where
   pub stored : IsStored bytes len
-  pub name : IsName (take len bytes)
+  pub name : IsLowName (take len bytes)
 
 -- the array holds the name of a file
 pub record IsStoredFileName (bytes : List ℕ) (len : ℕ) : Type 0 where

@@ -1,10 +1,11 @@
 //! Names of tables, columns and databases, kept in place so that a copy takes no memory.
 
 ghost use Rattle.std.specs.Prelude.{◌≡◌, ◌+◌, ◌-◌, ◌<◌, ◌≤◌, ◌↔◌, ◌++◌, List, ℕ, length, take, map, IsTrue};
+ghost use Rattle.std.specs.Option.{SomeIff};
 ghost use Rattle.std.specs.Result.{OkIff};
 ghost use Rattle.std.specs.Char.{to_ascii_lowercase};
 ghost use Rattle.std.specs.Str.{bytes_eq};
-ghost use Rattle.page_base.specs.Name.{IsName, is_name_byte, padded};
+ghost use Rattle.page_base.specs.Name.{IsName, IsLowName, is_name_byte, padded};
 
 use crate::NameRefusal;
 use std::marker::Model;
@@ -74,10 +75,20 @@ impl Name {
         })
     }
 
+    /// The name that these bytes are as they stand, in lower case; None exactly where they are none.
+    pub fn kept(bytes: &[u8]) -> Option<Name>
+        ensures { SomeIff result (IsLowName bytes.now) bytes.now }
+    {
+        match Name::read(bytes) {
+            Ok(name) if name.is_text(bytes) => Some(name),
+            _ => None,
+        }
+    }
+
     /// The name's bytes.
     pub fn bytes(&self) -> &[u8]
         ensures value { result.now ≡ self.now }
-        ensures name { IsName self.now }
+        ensures name { IsLowName self.now }
     {
         &self.bytes[..self.len as usize]
     }
