@@ -1,0 +1,4 @@
+:session 1
+USE shop
+CREATE TABLE t (id INT PRIMARY KEY, v INT, V INT)
+SELECT * FROM t

@@ -1,0 +1,5 @@
+:session 1
+USE shop
+CREATE TABLE t (id INT PRIMARY KEY, v INT)
+INSERT t VALUES (1, 10)
+INSERT t VALUES (1, 11)

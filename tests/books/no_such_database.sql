@@ -1,0 +1,4 @@
+:session 1
+USE shap
+USE master
+USE SHOP

@@ -1,0 +1,3 @@
+:session 1
+USE shop
+SELECT * FROM t

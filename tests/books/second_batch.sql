@@ -1,0 +1,4 @@
+:session 1
+USE shop
+GO
+USE shop
