@@ -1,5 +1,5 @@
 -- The tokens of a batch, from its bytes.
-use Rattle.std.proofs.Common.{◌≡◌, ℕ, zero, suc, ◌+◌, ◌<◌, ◌≤◌, Bool, true, false, cond, List, [], ◌∷◌, length, take, drop, arith, ap, sym, ◌∙◌, refl, add-zero, add-one, one-add}
+use Rattle.std.proofs.Common.{◌≡◌, ℕ, zero, suc, ◌+◌, ◌≤◌, Bool, true, false, cond, List, [], ◌∷◌, length, take, drop, arith, ap, sym, ◌∙◌, refl, add-zero, add-one, one-add}
 use Rattle.std.proofs.lemmas.List.{drop-drop}
 use Rattle.std.specs.Prelude.{nat_le, ◌==◌, map, Option, Some, None}
 use Rattle.std.specs.List.{prefix_len}
@@ -8,10 +8,9 @@ use Rattle.page_base.specs.Name.{is_name_byte}
 use Rattle.sql_read.specs.declared.keyword.Keyword.{Keyword}
 use Rattle.sql_read.specs.declared.token.Token.{Token}
 use Rattle.sql_read.specs.declared.token.TokenKind.{TokenKind}
-use Rattle.sql_read.specs.declared.token.TokenKind.TheVariants.{Bad, End}
 use Rattle.sql_read.specs.Words.{keyword_of}
 use Rattle.sql_read.specs.Tokens.{is_white, goes_on, number_of, token}
-use Rattle.sql_read.specs.Cut.{white_len, token_len, number_kind, name_kind, word_kind, mark_kind, kind_of, first_kind, behind, joined, cut, tokens_from}
+use Rattle.sql_read.specs.Cut.{white_len, token_len, name_kind, mark_kind, kind_of, first_kind, behind, joined, cut, tokens_from}
 
 -- bytes that belong to the token before are passed over
 pub cut_skip : (n at : ℕ) (bs : List ℕ) → n ≤ length bs → cut n at bs ≡ cut 0 (at + n) (drop n bs)

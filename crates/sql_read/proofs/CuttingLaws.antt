@@ -1,11 +1,12 @@
 -- The tokens of a batch as a relation, and as what the cutting finds.
-use Rattle.std.proofs.Common.{◌≡◌, ◌≢◌, ℕ, zero, suc, ◌+◌, ◌<◌, ◌≤◌, Bool, true, false, cond, List, [], ◌∷◌, ◌++◌, length, take, drop, arith, ap, sym, ◌∙◌, refl, inl, inr, ◌⊎◌, subst, add-zero, add-one, map, Option, length-append}
-use Rattle.std.specs.Prelude.{Some, None, nat_le, ◌==◌, ◌&&◌, pos}
+use Rattle.std.proofs.Common.{◌≡◌, ℕ, zero, suc, ◌+◌, ◌≤◌, Bool, true, false, cond, List, [], ◌∷◌, ◌++◌, length, take, drop, arith, ap, sym, ◌∙◌, refl, inl, inr, ◌⊎◌, subst, add-zero, add-one, map, Option, length-append}
+use Rattle.std.specs.Prelude.{Some, None, nat_le, ◌==◌}
 use Rattle.std.specs.List.{list_all, prefix_len}
 use Rattle.std.specs.Char.{is_ascii_digit, to_ascii_lowercase}
 use Rattle.std.proofs.lemmas.Bool.{leb-true, le-leb, eqb-true}
 use Rattle.std.proofs.lemmas.List.{take-append-drop, length-take-le}
 use Rattle.std.proofs.Math.Seq.{take-append_seam, drop-append_seam}
+use Rattle.sql_read.proofs.BoolLemmas.{clash, both_hold}
 use Rattle.page_base.specs.Name.{IsName, is_name_byte}
 use Rattle.sql_read.specs.declared.keyword.Keyword.{Keyword}
 use Rattle.sql_read.specs.declared.token.Mark.TheVariants.{Open, Close, Comma, Star}
@@ -18,7 +19,7 @@ use Rattle.sql_read.specs.Words.{text_of, keyword_of}
 use Rattle.sql_read.specs.Tokens.{is_white, goes_on, starts, number_of, byte_of, AreDigits, Spells, IsToken, token, Lexes, end, white, next}
 use Rattle.sql_read.specs.Cut.{IsPiece, IsWord, number_kind, name_kind, word_kind, mark_kind, kind_of, first_kind, joined, cut, tokens_from}
 use Rattle.sql_read.proofs.WordLemmas.{keyword_found, keyword_has, no_keyword}
-use Rattle.sql_read.proofs.Lexing.{all_same, front_passes, piece_of_digits, piece_is_word, word_is_name}
+use Rattle.sql_read.proofs.Lexing.{front_passes, piece_of_digits, piece_is_word, word_is_name}
 use Rattle.sql_read.proofs.Cutting.{cut_skip, prefix_within}
 
 word_kind_of : (b : ℕ) (bs : List ℕ) → IsName (b ∷ bs) → kind_of (b ∷ bs) ≡ name_kind (map to_ascii_lowercase (b ∷ bs)) (keyword_of (map to_ascii_lowercase (b ∷ bs)))
@@ -45,9 +46,6 @@ only_kind (b ∷ bs) (Key word) h = word_kind_of b bs h.0 ∙ ap (λ (letters : 
 only_kind (b ∷ bs) (Named name) h = word_kind_of b bs h.0 ∙ ap (λ (letters : List ℕ). name_kind letters (keyword_of letters)) h.1 ∙ ap (name_kind name) (no_keyword name h.2)
 only_kind (b ∷ bs) (Number n) h = let small : nat_le (number_of (b ∷ bs)) 2147483647 ≡ true = le-leb _ _ h.1 in rw (h.0.0, small, ← h.2) refl
 only_kind (b ∷ bs) (kind.Mark mark) h = ap kind_of h ∙ mark_kind_of mark
-
-clash : (v : Bool) → v ≡ true → v ≡ false → ⊥
-clash v h i = cc
 
 abbrev pub Found : List ℕ → TokenKind → Type 0
 Found bytes k = Spells bytes k ⊎ (k ≡ Bad)
@@ -120,10 +118,6 @@ prefix_stops test (b ∷ bs) = prefix_stops_one test b bs (test b) refl (prefix_
 prefix_none : (test : ℕ → Bool) (rest : List ℕ) → starts test rest ≡ false → prefix_len test rest ≡ 0
 prefix_none test [] h = refl
 prefix_none test (b ∷ bs) h = rw h refl
-
-both_hold : (v w : Bool) → (v && w) ≡ true → (v ≡ true) × (w ≡ true)
-both_hold true w h = (refl, h)
-both_hold false w h = cc
 
 -- so long is a front that passes a test, and behind which none passes
 prefix_exact : (test : ℕ → Bool) (more rest : List ℕ) → list_all test more ≡ true → starts test rest ≡ false → prefix_len test (more ++ rest) ≡ length more

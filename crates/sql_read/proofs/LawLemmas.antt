@@ -1,15 +1,15 @@
 -- One cutting, one reading, one place.
-use Rattle.std.proofs.Common.{◌≡◌, ℕ, suc, ◌+◌, ◌<◌, ◌≤◌, Bool, true, false, List, [], ◌∷◌, ◌++◌, length, arith, ap, sym, ◌∙◌, refl, subst, append_assoc, inl, inr, ◌⊎◌, map, append-nil, length-append}
+use Rattle.std.proofs.Common.{◌≡◌, ℕ, Bool, true, false, List, [], ◌∷◌, ◌++◌, length, arith, ap, sym, ◌∙◌, refl, subst, append_assoc, inl, inr, ◌⊎◌, append-nil, length-append}
 use Rattle.std.proofs.lemmas.List.{map-append}
 use Rattle.std.specs.Prelude.{ℤ, flat_map}
 use Rattle.plain_model.specs.declared.stmt.Stmt.{Stmt}
 use Rattle.sql_read.specs.declared.token.Mark.TheVariants as mark
 use Rattle.sql_read.specs.declared.token.Token.{Token}
 use Rattle.sql_read.specs.declared.token.TokenKind.{TokenKind}
-use Rattle.sql_read.specs.declared.token.TokenKind.TheVariants.{Key, Named, Number, Mark, End}
-use Rattle.sql_read.specs.Tokens.{Lexes, kinds}
+use Rattle.sql_read.specs.declared.token.TokenKind.TheVariants.{Mark, End}
+use Rattle.sql_read.specs.Tokens.{kinds}
 use Rattle.sql_read.specs.Cut.{tokens_from, cut}
-use Rattle.sql_read.specs.Grammar.{IsStmt, use_database, create_table, insert_row, select_all, AreStmts, IsBatch, more_number, more_column}
+use Rattle.sql_read.specs.Grammar.{IsStmt, use_database, create_table, insert_row, select_all, AreStmts, more_number, more_column}
 use Rattle.sql_read.specs.Place.{Begins, CantStand, IsFull}
 use Rattle.sql_read.specs.Laws.{HasOneCutting, HasOneReading, IsWrong, HasOnePlace}
 use Rattle.sql_read.proofs.CuttingLaws.{cut_lexes, lexes_cut}
@@ -113,11 +113,11 @@ begins_anyway front b = record { batch = b.batch; tokens = b.tokens; stmts = b.s
 -- what stands before a token and others stands before the last of them, or is all before the last
 front_of : (front mid shorter : List TokenKind) (k j : TokenKind) → front ++ k ∷ mid ≡ shorter ++ j ∷ [] → (more : List TokenKind) × (shorter ≡ front ++ more)
 front_of front mid shorter k j e = elim (parting front shorter k j mid [] e) [
-  inl same ↦ ([], sym same.0 ∙ sym (append-nil front))
+  | inl same ↦ ([], sym same.0 ∙ sym (append-nil front))
   | inr (inl h) ↦ (k ∷ h.0, h.1)
   | inr (inr h) ↦ (let long : front ++ k ∷ mid ≡ shorter ++ j ∷ (h.0 ++ k ∷ mid) = ap (λ (ks : List TokenKind). ks ++ k ∷ mid) h.1 ∙ append_assoc shorter (j ∷ h.0) (k ∷ mid) in
-    absurd (omega (arith, simp length-append at (ap length (sym long ∙ e)))))
-  ]
+      absurd (omega (arith, simp length-append at (ap length (sym long ∙ e)))))
+]
 
 -- behind a wrong token no other is wrong
 wrong_once : (front mid : List TokenKind) (k j : TokenKind) → CantStand front k ⊎ IsFull front → CantStand (front ++ k ∷ mid) j ⊎ IsFull (front ++ k ∷ mid) → ⊥
@@ -133,7 +133,7 @@ wrong_behind front mid more t u e h i =
 
 pub one_place : (ts : List Token) → HasOnePlace ts
 one_place ts = λ front more t u rest others e f h i. elim (parting front more t u rest others (sym e ∙ f)) [
-  inl same ↦ same
+  | inl same ↦ same
   | inr (inl g) ↦ absurd (wrong_behind front g.0 more t u g.1 h i)
   | inr (inr g) ↦ absurd (wrong_behind more g.0 front u t g.1 i h)
-  ]
+]

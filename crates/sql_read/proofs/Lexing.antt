@@ -1,19 +1,16 @@
 -- Bytes at the front of some text, and what tokens are found there.
-use Rattle.std.proofs.Common.{◌≡◌, ℕ, suc, ◌+◌, ◌*◌, ◌-◌, ◌<◌, ◌≤◌, Bool, true, false, cond, List, [], ◌∷◌, ◌++◌, length, take, drop, get_or, arith, ap, sym, ◌∙◌, refl, add-one, map}
+use Rattle.std.proofs.Common.{◌≡◌, ℕ, suc, ◌+◌, ◌*◌, ◌-◌, ◌<◌, ◌≤◌, Bool, true, false, cond, List, [], ◌∷◌, length, take, drop, get_or, arith, ap, sym, ◌∙◌, refl, add-one}
 use Rattle.std.proofs.Math.Seq.{drop-cons}
-use Rattle.std.specs.Prelude.{nat_le, ◌&&◌}
+use Rattle.std.specs.Prelude.{nat_le}
 use Rattle.std.specs.List.{list_all, prefix_len}
 use Rattle.std.specs.Char.{is_ascii_digit}
 use Rattle.std.specs.Prelude.{All}
 use Rattle.std.proofs.lemmas.List.Folds.{list_all_at}
 use Rattle.std.proofs.lemmas.Bool.{leb-true}
+use Rattle.sql_read.proofs.BoolLemmas.{is_false, is_true}
 use Rattle.page_base.specs.Name.{IsName, is_name_byte}
 use Rattle.sql_read.specs.Tokens.{goes_on, number_behind}
-use Rattle.sql_read.specs.Cut.{token_len, word_kind, IsPiece, IsWord}
-
-is_false : (v : Bool) → (v ≡ true → ⊥) → v ≡ false
-is_false false h = refl
-is_false true h = absurd (h refl)
+use Rattle.sql_read.specs.Cut.{token_len, IsPiece, IsWord}
 
 number_grows : (n : ℕ) (ds : List ℕ) → n ≤ number_behind n ds
 number_grows n [] = omega arith
@@ -55,10 +52,6 @@ piece_of_digits (b ∷ bs) some digit h = rw digit (sym (all_same (goes_on b) is
 pub piece_is_word : (bytes : List ℕ) → 1 ≤ length bytes → is_ascii_digit (get_or bytes 0 0) ≡ false → is_name_byte (get_or bytes 0 0) ≡ true → IsPiece bytes → IsWord bytes
 piece_is_word [] some digit letter h = absurd (omega (arith, some))
 piece_is_word (b ∷ bs) some digit letter h = (digit, letter, sym (all_same (goes_on b) is_name_byte bs (λ c. rw (letter, digit) refl)) ∙ h)
-
-is_true : (v : Bool) → (v ≡ false → ⊥) → v ≡ true
-is_true true h = refl
-is_true false h = absurd (h refl)
 
 pub each_passes : (test : ℕ → Bool) (bs : List ℕ) → list_all test bs ≡ true → All (λ c. test c ≡ true) bs
 each_passes test bs h = λ k d within. is_true (test (get_or bs k d)) (λ no. let not_all : list_all test bs ≡ false = list_all_at test bs k d within no in cc)

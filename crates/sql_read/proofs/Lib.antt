@@ -1,3 +1,4 @@
+pub mod BoolLemmas
 pub mod Lexing
 pub mod Cutting
 pub mod Spelling

@@ -1,9 +1,8 @@
 -- What tokens may follow where some symbols are due, and that the table keeps to it.
-use Rattle.std.proofs.Common.{◌≡◌, ℕ, suc, ◌+◌, ◌<◌, ◌≤◌, Bool, true, false, cond, List, [], ◌∷◌, ◌++◌, length, arith, ap, sym, ◌∙◌, refl, subst, Option, append_assoc, add-zero, add-one, inl, inr, ◌⊎◌}
+use Rattle.std.proofs.Common.{◌≡◌, ℕ, ◌+◌, Bool, true, false, cond, List, [], ◌∷◌, ◌++◌, length, arith, ap, sym, ◌∙◌, refl, subst, Option, append_assoc, inl, inr, ◌⊎◌}
 use Rattle.std.specs.Prelude.{ℤ, pos, Some, None, nat_le, ◌&&◌, ◌==◌, flat_map, codes}
 use Rattle.std.proofs.lemmas.Slice.Eq.{bytes_eq-Decides}
 use Rattle.plain_model.specs.declared.stmt.Stmt.{Stmt}
-use Rattle.plain_model.specs.declared.stmt.Stmt.TheVariants.{UseDb}
 use Rattle.sql_read.specs.declared.keyword.Keyword.{Keyword}
 use Rattle.sql_read.specs.declared.keyword.Keyword.TheVariants as word
 use Rattle.sql_read.specs.declared.token.Mark.{Mark}
@@ -13,10 +12,9 @@ use Rattle.sql_read.specs.declared.token.TokenKind.TheVariants as kind
 use Rattle.sql_read.specs.declared.token.TokenKind.TheVariants.{Named, Number, End}
 use Rattle.sql_read.specs.Words.{text_of, is_same, keyword_of}
 use Rattle.sql_read.proofs.WordLemmas.{keyword_found, keyword_spelled, name_spelled}
-use Rattle.sql_read.specs.Tokens.{byte_of, Spells}
+use Rattle.sql_read.specs.Tokens.{byte_of}
 use Rattle.sql_read.proofs.Writing.{AreSpelled}
 use Rattle.sql_read.specs.Grammar.{IsStmt, use_database, create_table, insert_row, select_all, AreStmts, MayHave, more_number, more_column}
-use Rattle.sql_read.specs.Table as symbol
 use Rattle.sql_read.specs.Table.{Symbol, Key, Sign, AnyName, AnyNumber, Part, MoreNumbers, MoreColumns, MoreStmts, Finish, is_key, is_mark, is_name, is_number, is_end, create_rest, insert_rest, select_rest, feed, start}
 
 -- statements one behind the other
@@ -153,18 +151,18 @@ stmts_back : (limited : Bool) (st s : List Symbol) (k : TokenKind) (ks : List To
     → cond (is_key word.Use k) (Some (AnyName ∷ MoreStmts ∷ st)) (cond (is_key word.Create k) (Some (create_rest ++ MoreStmts ∷ st)) (cond (is_key word.Insert k) (Some (insert_rest ++ MoreStmts ∷ st)) (cond (is_key word.Select k) (Some (select_rest ++ MoreStmts ∷ st)) o))) ≡ Some s
     → Means limited (MoreStmts ∷ st) (k ∷ ks)
 stmts_back limited st s k ks o other h e = elim (either (is_key word.Use k) _ s _ e) [
-  inl p ↦ opened limited (MoreStmts ∷ st) s _ k _ ks (key_is word.Use k p.0) p.1 (use_back limited st ks) h
+  | inl p ↦ opened limited (MoreStmts ∷ st) s _ k _ ks (key_is word.Use k p.0) p.1 (use_back limited st ks) h
   | inr f ↦ elim (either (is_key word.Create k) _ s _ f) [
-    inl p ↦ opened limited (MoreStmts ∷ st) s _ k _ ks (key_is word.Create k p.0) p.1 (create_back limited st ks) h
+    | inl p ↦ opened limited (MoreStmts ∷ st) s _ k _ ks (key_is word.Create k p.0) p.1 (create_back limited st ks) h
     | inr g ↦ elim (either (is_key word.Insert k) _ s _ g) [
-      inl p ↦ opened limited (MoreStmts ∷ st) s _ k _ ks (key_is word.Insert k p.0) p.1 (insert_back limited st ks) h
+      | inl p ↦ opened limited (MoreStmts ∷ st) s _ k _ ks (key_is word.Insert k p.0) p.1 (insert_back limited st ks) h
       | inr i ↦ elim (either (is_key word.Select k) _ s _ i) [
-        inl p ↦ opened limited (MoreStmts ∷ st) s _ k _ ks (key_is word.Select k p.0) p.1 (select_back limited st ks) h
+        | inl p ↦ opened limited (MoreStmts ∷ st) s _ k _ ks (key_is word.Select k p.0) p.1 (select_back limited st ks) h
         | inr l ↦ other l
-        ]
       ]
     ]
   ]
+]
 
 -- what may follow a token that the table takes may follow before it with the token
 pub step_back : (limited : Bool) (st s : List Symbol) (k : TokenKind) (ks : List TokenKind) → IsOpen limited st → feed limited st k ≡ Some s → Means limited s ks → Means limited st (k ∷ ks)
@@ -176,13 +174,13 @@ step_back limited (AnyNumber ∷ st) s k ks room e h = let p = passed (is_number
 step_back limited (Finish ∷ st) s k ks room e h = let p = passed (is_end k) st s e in (ks, ap (λ (j : TokenKind). j ∷ ks) (end_is k p.0), means_same limited st s ks p.1 h)
 step_back limited (Part others ∷ st) s k ks room e h = step_back limited st s k ks room.1 (not_full (limited && nat_le 64 others) s (feed limited st k) e) h
 step_back limited (MoreNumbers parts ∷ st) s k ks room e h = elim (either (is_mark mark.Comma k) _ s (feed limited st k) e) [
-  inl p ↦ opened limited (MoreNumbers parts ∷ st) s _ k _ ks (mark_is mark.Comma k p.0) p.1 (numbers_back limited parts st ks) h
+  | inl p ↦ opened limited (MoreNumbers parts ∷ st) s _ k _ ks (mark_is mark.Comma k p.0) p.1 (numbers_back limited parts st ks) h
   | inr f ↦ ([], k ∷ ks, refl, (λ l. omega (arith, room.0 l)), step_back limited st s k ks room.1 f h)
-  ]
+]
 step_back limited (MoreColumns parts ∷ st) s k ks room e h = elim (either (is_mark mark.Comma k) _ s (feed limited st k) e) [
-  inl p ↦ opened limited (MoreColumns parts ∷ st) s _ k _ ks (mark_is mark.Comma k p.0) p.1 (columns_back limited parts st ks) h
+  | inl p ↦ opened limited (MoreColumns parts ∷ st) s _ k _ ks (mark_is mark.Comma k p.0) p.1 (columns_back limited parts st ks) h
   | inr f ↦ ([], k ∷ ks, refl, (λ l. omega (arith, room.0 l)), step_back limited st s k ks room.1 f h)
-  ]
+]
 step_back limited (MoreStmts ∷ st) s k ks room e h = stmts_back limited st s k ks (feed limited st k) (λ f. ([], k ∷ ks, [], refl, refl, step_back limited st s k ks room f h)) h e
 
 -- what stands for a symbol at the least

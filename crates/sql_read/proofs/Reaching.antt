@@ -1,15 +1,12 @@
 -- What the table does with tokens of the grammar: it takes them all.
-use Rattle.std.proofs.Common.{◌≡◌, ℕ, suc, ◌+◌, ◌<◌, ◌≤◌, Bool, true, false, cond, List, [], ◌∷◌, ◌++◌, length, arith, ap, sym, ◌∙◌, refl, Option, append_assoc, add-zero, add-one, add-suc}
+use Rattle.std.proofs.Common.{◌≡◌, ℕ, suc, ◌+◌, Bool, true, false, List, [], ◌∷◌, ◌++◌, length, arith, ap, ◌∙◌, refl, Option, append_assoc, add-zero}
 use Rattle.std.specs.Prelude.{ℤ, Some, None, nat_le, ◌&&◌, flat_map}
 use Rattle.std.proofs.lemmas.Bool.{lt-leb}
 use Rattle.plain_model.specs.declared.stmt.Stmt.{Stmt}
-use Rattle.sql_read.specs.declared.keyword.Keyword.{Keyword}
-use Rattle.sql_read.specs.declared.keyword.Keyword.TheVariants as word
 use Rattle.sql_read.specs.declared.token.Mark.TheVariants as mark
 use Rattle.sql_read.specs.declared.token.TokenKind.{TokenKind}
-use Rattle.sql_read.specs.declared.token.TokenKind.TheVariants.{Key, Named, Number, Mark, End}
+use Rattle.sql_read.specs.declared.token.TokenKind.TheVariants.{Mark}
 use Rattle.sql_read.specs.Grammar.{IsStmt, use_database, create_table, insert_row, select_all, AreStmts, MayHave, more_number, more_column}
-use Rattle.sql_read.specs.Table as symbol
 use Rattle.sql_read.specs.Table.{Symbol, Sign, MoreNumbers, MoreColumns, feed, start}
 
 abbrev pub and_then : (List Symbol → Option (List Symbol)) → Option (List Symbol) → Option (List Symbol)

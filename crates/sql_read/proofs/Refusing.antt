@@ -1,5 +1,5 @@
 -- The token at which the table stops is the first that can't stand, or begins a part too many.
-use Rattle.std.proofs.Common.{◌≡◌, ℕ, suc, ◌+◌, ◌<◌, ◌≤◌, Bool, true, false, cond, List, [], ◌∷◌, ◌++◌, length, arith, ap, sym, ◌∙◌, refl, subst, Option, append_assoc, inl, inr, ◌⊎◌, map}
+use Rattle.std.proofs.Common.{◌≡◌, ℕ, ◌+◌, ◌≤◌, Bool, true, false, cond, List, [], ◌∷◌, ◌++◌, arith, ap, sym, ◌∙◌, refl, subst, Option, append_assoc, inl, inr, ◌⊎◌}
 use Rattle.std.specs.Prelude.{Some, None, nat_le, ◌&&◌, Result, Err, IfErr}
 use Rattle.std.proofs.lemmas.Bool.{le-leb, lt-leb, leb-true, cases_lt}
 use Rattle.plain_model.specs.declared.stmt.Stmt.{Stmt}
@@ -10,12 +10,12 @@ use Rattle.sql_read.specs.declared.token.TokenKind.{TokenKind}
 use Rattle.sql_read.specs.declared.token.TokenKind.TheVariants as kind
 use Rattle.sql_read.specs.Tokens.{Lexes, kinds}
 use Rattle.sql_read.specs.Cut.{tokens_from}
-use Rattle.sql_read.specs.Grammar.{AreStmts, IsBatch, MayHave}
+use Rattle.sql_read.specs.Grammar.{IsBatch}
 use Rattle.sql_read.specs.Place.{Begins, CantStand, IsFull, IsRefusedAt, IsRefusal}
 use Rattle.sql_read.specs.declared.refusal.ParseRefusal.{ParseRefusal}
 use Rattle.sql_read.specs.declared.refusal.ParseRefusal.TheVariants.{Syntax, Memory}
 use Rattle.sql_read.specs.Steps.{FailsTo}
-use Rattle.sql_read.specs.Table.{Symbol, Key, Sign, AnyName, AnyNumber, Part, MoreNumbers, MoreColumns, MoreStmts, Finish, create_rest, insert_rest, select_rest, feed, start, run, onward, Verdict, Whole, Stops, is_mark, is_key, is_name, is_number, is_end}
+use Rattle.sql_read.specs.Table.{Symbol, Key, Sign, AnyName, AnyNumber, Part, MoreNumbers, MoreColumns, MoreStmts, Finish, create_rest, insert_rest, select_rest, feed, start, run, onward, Verdict, Stops, is_mark, is_key, is_name, is_number, is_end}
 use Rattle.std.proofs.lemmas.List.{map-append}
 use Rattle.sql_read.proofs.CuttingLaws.{cut_lexes, lexes_cut}
 use Rattle.sql_read.proofs.Reaching.{and_then, steps, steps_append, steps_stmts}
@@ -36,26 +36,26 @@ Follows k s = IsOpen true s ⊎ ((k ≡ kind.Mark mark.Comma) × (is_full s ≡ 
 
 part_open : (parts : ℕ) (next : Symbol) (st s : List Symbol) (k : TokenKind) → k ≡ kind.Mark mark.Comma → (Part parts ∷ next ∷ st) ≡ s → (parts + 1 ≤ 64 → IsOpen true (next ∷ st)) → Follows k s
 part_open parts next st s k comma same room = elim (cases_lt parts 64) [
-  inl few ↦ inl (open_same _ s same ((λ l. omega (arith, few)), room (omega (arith, few))))
+  | inl few ↦ inl (open_same _ s same ((λ l. omega (arith, few)), room (omega (arith, few))))
   | inr many ↦ inr (comma, subst (λ (u : List Symbol). is_full u ≡ true) same (le-leb 64 parts many))
-  ]
+]
 
 stmts_open : (st s : List Symbol) (k : TokenKind) (o : Option (List Symbol)) → IsOpen true st → (o ≡ Some s → Follows k s)
     → cond (is_key word.Use k) (Some (AnyName ∷ MoreStmts ∷ st)) (cond (is_key word.Create k) (Some (create_rest ++ MoreStmts ∷ st)) (cond (is_key word.Insert k) (Some (insert_rest ++ MoreStmts ∷ st)) (cond (is_key word.Select k) (Some (select_rest ++ MoreStmts ∷ st)) o))) ≡ Some s
     → Follows k s
 stmts_open st s k o room other e = elim (either (is_key word.Use k) _ s _ e) [
-  inl p ↦ inl (open_same _ s p.1 room)
+  | inl p ↦ inl (open_same _ s p.1 room)
   | inr f ↦ elim (either (is_key word.Create k) _ s _ f) [
-    inl p ↦ inl (open_same _ s p.1 ((λ l. omega arith), room))
+    | inl p ↦ inl (open_same _ s p.1 ((λ l. omega arith), room))
     | inr g ↦ elim (either (is_key word.Insert k) _ s _ g) [
-      inl p ↦ inl (open_same _ s p.1 ((λ l. omega arith), room))
+      | inl p ↦ inl (open_same _ s p.1 ((λ l. omega arith), room))
       | inr i ↦ elim (either (is_key word.Select k) _ s _ i) [
-        inl p ↦ inl (open_same _ s p.1 room)
+        | inl p ↦ inl (open_same _ s p.1 room)
         | inr l ↦ other l
-        ]
       ]
     ]
   ]
+]
 
 step_open : (st s : List Symbol) (k : TokenKind) → IsOpen true st → feed true st k ≡ Some s → Follows k s
 step_open [] s k room e = cc
@@ -66,13 +66,13 @@ step_open (AnyNumber ∷ st) s k room e = inl (open_same st s (passed (is_number
 step_open (Finish ∷ st) s k room e = inl (open_same st s (passed (is_end k) st s e).1 room)
 step_open (Part others ∷ st) s k room e = step_open st s k room.1 (not_full (nat_le 64 others) s (feed true st k) e)
 step_open (MoreNumbers parts ∷ st) s k room e = elim (either (is_mark mark.Comma k) _ s (feed true st k) e) [
-  inl p ↦ part_open parts AnyNumber (MoreNumbers (parts + 1) ∷ st) s k (mark_is mark.Comma k p.0) p.1 (λ few. ((λ l. few), room.1))
+  | inl p ↦ part_open parts AnyNumber (MoreNumbers (parts + 1) ∷ st) s k (mark_is mark.Comma k p.0) p.1 (λ few. ((λ l. few), room.1))
   | inr f ↦ step_open st s k room.1 f
-  ]
+]
 step_open (MoreColumns parts ∷ st) s k room e = elim (either (is_mark mark.Comma k) _ s (feed true st k) e) [
-  inl p ↦ part_open parts AnyName (Key word.Int ∷ MoreColumns (parts + 1) ∷ st) s k (mark_is mark.Comma k p.0) p.1 (λ few. ((λ l. few), room.1))
+  | inl p ↦ part_open parts AnyName (Key word.Int ∷ MoreColumns (parts + 1) ∷ st) s k (mark_is mark.Comma k p.0) p.1 (λ few. ((λ l. few), room.1))
   | inr f ↦ step_open st s k room.1 f
-  ]
+]
 step_open (MoreStmts ∷ st) s k room e = stmts_open st s k (feed true st k) room (λ f. step_open st s k room f) e
 
 -- behind 64 parts nothing may come
@@ -170,9 +170,9 @@ reach_on : (st reached : List Symbol) (o : Option (List Symbol)) (k : TokenKind)
     → and_then (λ s. steps true s ks) o ≡ Some reached → Reaches st (k ∷ ks) reached
 reach_on st reached None k ks room f ih e = cc
 reach_on st reached (Some s) k ks room f ih e = elim (step_open st s k room f) [
-  inl more ↦ elim (ih s more e) [ inl end ↦ inl end | inr shut ↦ inr (shut_later st s reached k ks f shut) ]
+  | inl more ↦ elim (ih s more e) [ inl end ↦ inl end | inr shut ↦ inr (shut_later st s reached k ks f shut) ]
   | inr shut ↦ inr (shut_here st s reached k ks room shut.0 shut.1 e)
-  ]
+]
 
 reach : (st reached : List Symbol) (ks : List TokenKind) → IsOpen true st → steps true st ks ≡ Some reached → Reaches st ks reached
 reach st reached [] room e = let same : st ≡ reached = cc in inl (open_same st reached same room)
@@ -189,9 +189,9 @@ back_open : (st reached : List Symbol) (ks more : List TokenKind) → IsOpen tru
 back_open st reached [] more room end e h = let same : st ≡ reached = cc in subst (λ (u : List Symbol). Means true u more) (sym same) h
 back_open st reached (k ∷ ks) more room end e h = back_on true st reached (feed true st k) k ks more refl
     (λ s f g. elim (step_open st s k room f) [
-      inl on ↦ step_back true st s k (ks ++ more) room f (back_open s reached ks more on end g h)
+      | inl on ↦ step_back true st s k (ks ++ more) room f (back_open s reached ks more on end g h)
       | inr shut ↦ absurd (full_shut reached (shut_here st s reached k ks room shut.0 shut.1 g).full end)
-      ]) e
+    ]) e
 
 back_loose : (st reached : List Symbol) (ks more : List TokenKind) → steps false st ks ≡ Some reached → Means false reached more → Means false st (ks ++ more)
 back_loose st reached [] more e h = let same : st ≡ reached = cc in subst (λ (u : List Symbol). Means false u more) (sym same) h
@@ -238,9 +238,9 @@ spelled_on st reached (Some s) ks ih e = ih s e
 taken_spelled : (st reached : List Symbol) (ks rest : List TokenKind) → AreCut (ks ++ rest) → steps true st ks ≡ Some reached → AreSpelled ks
 taken_spelled st reached [] rest h e = tt
 taken_spelled st reached (k ∷ ks) rest h e = elim h.0 [
-  inl bad ↦ (let none : steps true st (k ∷ ks) ≡ None = rw (bad, feed_bad true st) refl in cc)
+  | inl bad ↦ (let none : steps true st (k ∷ ks) ≡ None = rw (bad, feed_bad true st) refl in cc)
   | inr good ↦ (good, spelled_on st reached (feed true st k) ks (λ s f. taken_spelled s reached ks rest h.1 f) e)
-  ]
+]
 
 -- without the limit the table takes what it takes with it
 keep_on : (v : Bool) (x s : List Symbol) (o p : Option (List Symbol)) → (o ≡ Some s → p ≡ Some s) → cond v (Some x) o ≡ Some s → cond v (Some x) p ≡ Some s
@@ -290,7 +290,7 @@ over_begins front reached goes full b = over_rest front reached b.rest goes full
 -- why the table stops, in words of the grammar
 stuck_why : (front : List TokenKind) (k : TokenKind) (reached : List Symbol) → AreSpelled front → steps true start front ≡ Some reached → feed true reached k ≡ None → CantStand front k ⊎ IsFull front
 stuck_why front k reached spelled goes stuck = elim (reach start reached front start_open goes) [
-  inl room ↦ inl (record { before = begins_open front reached spelled room goes; none = none_begins false front k reached (still_steps start reached front goes) (sym (loosen reached k room) ∙ stuck) })
+  | inl room ↦ inl (record { before = begins_open front reached spelled room goes; none = none_begins false front k reached (still_steps start reached front goes) (sym (loosen reached k room) ∙ stuck) })
   | inr shut ↦ inr (record {
     shorter = shut.shorter;
     front_is = shut.split;
@@ -298,7 +298,7 @@ stuck_why front k reached spelled goes stuck = elim (reach start reached front s
     over = over_begins front reached goes shut.full;
     unlimited = begins_loose front reached spelled (still_steps start reached front goes);
   })
-  ]
+]
 
 never : (batch : List ℕ) (stmts : List Stmt) (front : List Token) (t : Token) (rest : List Token) (reached : List Symbol) → steps true start (kinds front) ≡ Some reached → feed true reached t.kind ≡ None
     → Lexes 0 batch (front ++ t ∷ rest) → IsBatch batch stmts → ⊥

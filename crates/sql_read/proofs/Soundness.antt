@@ -1,15 +1,15 @@
 -- What holds of each statement that the grammar has.
-use Rattle.std.proofs.Common.{◌≡◌, ℕ, ◌+◌, ◌<◌, ◌≤◌, Bool, true, false, cond, List, [], ◌∷◌, ◌++◌, length, arith, ap, sym, ◌∙◌, refl, map, add-one}
-use Rattle.std.specs.Prelude.{ℤ, filter, nat_le, ◌&&◌, ◌==◌, flat_map}
+use Rattle.std.proofs.Common.{◌≡◌, ℕ, ◌+◌, ◌≤◌, Bool, true, false, cond, List, [], ◌∷◌, length, arith, ap, refl, map}
+use Rattle.std.specs.Prelude.{ℤ, filter, nat_le, ◌==◌}
 use Rattle.std.specs.List.{list_all}
 use Rattle.std.proofs.lemmas.List.{length-map}
 use Rattle.std.proofs.lemmas.Bool.{le-leb}
 use Rattle.page_base.specs.declared.column.Column.{Column}
 use Rattle.plain_model.specs.declared.expr.Expr as expr
 use Rattle.plain_model.specs.declared.stmt.Stmt.{Stmt}
-use Rattle.plain_model.specs.Sound.{is_sound, is_entry, are_columns, are_distinct, is_definition, is_column, has_place}
+use Rattle.plain_model.specs.Sound.{is_sound, is_entry, are_columns, are_distinct, is_definition, is_column}
 use Rattle.sql_read.specs.declared.token.TokenKind.{TokenKind}
-use Rattle.sql_read.specs.Grammar.{IsStmt, use_database, create_table, insert_row, select_all, key_column, plain_column, without_twins}
+use Rattle.sql_read.specs.Grammar.{IsStmt, use_database, create_table, insert_row, select_all, key_column, plain_column}
 
 numbers_are_entries : (ns : List ℤ) → list_all is_entry (map (λ n. expr.Number n) ns) ≡ true
 numbers_are_entries [] = refl

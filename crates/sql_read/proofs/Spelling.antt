@@ -1,7 +1,7 @@
 -- Which statement some tokens spell.
-use Rattle.std.proofs.Common.{◌≡◌, ℕ, ◌+◌, ◌<◌, ◌≤◌, Bool, true, false, cond, List, [], ◌∷◌, ◌++◌, length, arith, ap, sym, ◌∙◌, refl, append_assoc, map, length-append, add-one, suc, drop, take, get_or, ◌-◌}
+use Rattle.std.proofs.Common.{◌≡◌, ℕ, ◌+◌, ◌<◌, Bool, true, false, cond, List, [], ◌∷◌, ◌++◌, length, arith, ap, sym, ◌∙◌, refl, append_assoc, map, length-append, add-one, suc, drop, take, get_or, ◌-◌}
 use Rattle.std.proofs.lemmas.List.{length-map, map-append, take_rest}
-use Rattle.std.specs.Prelude.{ℤ, Some, None, flat_map, not, ◌&&◌, ◌||◌}
+use Rattle.std.specs.Prelude.{Some, None, flat_map, not, ◌&&◌, ◌||◌}
 use Rattle.std.specs.List.{list_any}
 use Rattle.std.specs.Str.{bytes_eq}
 use Rattle.std.proofs.Math.Seq.{drop-cons}
@@ -10,7 +10,6 @@ use Rattle.std.proofs.lemmas.List.Concat.{flat_map-append}
 use Rattle.page_base.specs.declared.column.Column.{Column}
 use Rattle.plain_model.specs.declared.expr.Expr as expr
 use Rattle.plain_model.specs.declared.expr.Expr.{Expr}
-use Rattle.plain_model.specs.declared.stmt.Stmt.{Stmt}
 use Rattle.plain_model.specs.declared.stmt.Stmt.TheVariants.{UseDb, CreateTable, Insert, Select}
 use Rattle.plain_model.specs.declared.stmt.Items.TheVariants as items
 use Rattle.sql_read.specs.declared.keyword.Keyword.TheVariants as word
@@ -18,8 +17,8 @@ use Rattle.sql_read.specs.declared.token.Mark.TheVariants as mark
 use Rattle.sql_read.specs.declared.token.Token.{Token}
 use Rattle.sql_read.specs.declared.token.TokenKind.{TokenKind}
 use Rattle.sql_read.specs.declared.token.TokenKind.TheVariants.{Key, Named, Number, Mark}
-use Rattle.sql_read.specs.Tokens.{kinds, token}
-use Rattle.sql_read.specs.Grammar.{IsStmt, use_database, create_table, insert_row, select_all, more_number, more_column, key_column, plain_column, without_twins}
+use Rattle.sql_read.specs.Tokens.{token}
+use Rattle.sql_read.specs.Grammar.{use_database, create_table, insert_row, select_all, more_number, more_column, key_column, plain_column, without_twins}
 use Rattle.sql_read.specs.Table as symbol
 use Rattle.sql_read.specs.Table.{Symbol, AnyName, AnyNumber, Part, MoreNumbers, MoreColumns, is_mark, is_key, is_end, start, select_rest, run, onward}
 use Rattle.sql_read.specs.Steps.{Reads, ReadsNumber, ReadsNumbers, number_in, ReadsColumns, ReadsKeyColumn, ReadsPlainColumn, first_place, begins_with}

@@ -1,10 +1,11 @@
 -- Bytes for tokens.
-use Rattle.std.proofs.Common.{◌≡◌, ℕ, suc, ◌+◌, ◌<◌, ◌≤◌, Bool, true, false, List, [], ◌∷◌, ◌++◌, length, arith, ap, sym, ◌∙◌, refl, subst, append_assoc, inl, inr, ◌⊎◌, map, get_or}
+use Rattle.std.proofs.Common.{◌≡◌, ℕ, suc, ◌+◌, ◌<◌, Bool, true, false, List, [], ◌∷◌, ◌++◌, length, arith, ap, sym, ◌∙◌, refl, subst, inl, inr, ◌⊎◌, get_or}
 use Rattle.std.specs.Prelude.{ℤ, flat_map, not, ◌&&◌, ◌==◌}
 use Rattle.std.proofs.lemmas.Bool.{eqb-true}
 use Rattle.std.specs.List.{list_all}
 use Rattle.std.specs.Char.{is_ascii_digit}
 use Rattle.plain_model.specs.declared.stmt.Stmt.{Stmt}
+use Rattle.sql_read.proofs.BoolLemmas.{is_false, both_hold}
 use Rattle.page_base.specs.Name.{IsName, is_name_byte}
 use Rattle.sql_read.specs.declared.token.Mark.TheVariants as mark
 use Rattle.sql_read.specs.declared.token.Token.{Token}
@@ -12,7 +13,7 @@ use Rattle.sql_read.specs.declared.token.TokenKind.{TokenKind}
 use Rattle.sql_read.specs.declared.token.Mark.{Mark}
 use Rattle.sql_read.specs.declared.token.TokenKind.TheVariants as kind
 use Rattle.sql_read.specs.declared.token.TokenKind.TheVariants.{Key, Named, Number, Bad, End}
-use Rattle.sql_read.specs.Tokens.{is_white, goes_on, starts, byte_of, AreDigits, Spells, IsToken, token, Lexes, end, white, next, kinds}
+use Rattle.sql_read.specs.Tokens.{is_white, goes_on, byte_of, AreDigits, Spells, IsToken, token, Lexes, end, white, next, kinds}
 use Rattle.sql_read.specs.Grammar.{IsStmt, use_database, create_table, insert_row, select_all, AreStmts, more_number, more_column}
 use Rattle.sql_read.specs.Table.{is_end}
 use Rattle.sql_read.proofs.Lexing.{all_same}
@@ -42,10 +43,6 @@ spelled_both (k ∷ front) rest h i = (h.0, spelled_both front rest h.1 i)
 -- bytes of which the tokens from a place on are these
 abbrev pub AreWritten : ℕ → List TokenKind → Type 0
 AreWritten at ks = (bytes : List ℕ) × (ts : List Token) × Lexes at bytes ts × (kinds ts ≡ ks)
-
-is_false : (v : Bool) → (v ≡ true → ⊥) → v ≡ false
-is_false false h = refl
-is_false true h = absurd (h refl)
 
 not_byte : (test : ℕ → Bool) (b n : ℕ) → test b ≡ true → test n ≡ false → (b == n) ≡ false
 not_byte test b n h i = is_false (b == n) (λ e. let same : test b ≡ test n = ap test (eqb-true b n e) in cc)
@@ -131,18 +128,14 @@ stmt_no_end limited front s (create_table name first others few) = columns_no_en
 stmt_no_end limited front s (insert_row name first others few) = numbers_no_end others
 stmt_no_end limited front s (select_all name) = refl
 
-both_hold : (v w : Bool) → (v && w) ≡ true → (v ≡ true) × (w ≡ true)
-both_hold true w h = (refl, h)
-both_hold false w h = cc
-
 write_front : (front rest : List TokenKind) → no_end front ≡ true → AreSpelled front → ((from : ℕ) → AreWritten from rest) → (at : ℕ) → AreWritten at (front ++ rest)
 write_front [] rest ends h more at = more at
 write_front (k ∷ front) rest ends h more at =
     let both = both_hold (not (is_end k)) (no_end front) ends in
     elim h.0 [
-      inl e ↦ (let last : not (is_end k) ≡ false = rw e refl in cc)
+      | inl e ↦ (let last : not (is_end k) ≡ false = rw e refl in cc)
       | inr text ↦ write_token at text.0 k (front ++ rest) text.1 (λ from. write_front front rest both.1 h.1 more from)
-      ]
+    ]
 
 -- there are bytes for each list of statements that has tokens
 pub write_stmts : (limited : Bool) (ks : List TokenKind) (ss : List Stmt) → AreStmts limited ks ss → AreSpelled ks → (at : ℕ) → AreWritten at ks

@@ -20,16 +20,20 @@ abbrev pub token_len : List ℕ → ℕ
 token_len [] = 0
 token_len (b ∷ bs) = prefix_len (goes_on b) bs + 1
 
+-- a number token, bad where the number is too large
 abbrev pub number_kind : ℕ → TokenKind
 number_kind n = if nat_le n 2147483647 then Number (pos n) else Bad
 
+-- a reserved word or another name
 abbrev pub name_kind : List ℕ → Option Keyword → TokenKind
 name_kind name None = Named name
 name_kind name (Some word) = Key word
 
+-- the kind of letters, digits and `_`, bad where there are too many
 abbrev pub word_kind : List ℕ → TokenKind
 word_kind bytes = if nat_le (length bytes) 128 then name_kind (map to_ascii_lowercase bytes) (keyword_of (map to_ascii_lowercase bytes)) else Bad
 
+-- the kind of a byte that is no letter, digit or `_`
 abbrev pub mark_kind : ℕ → TokenKind
 mark_kind b = if b == 40 then Mark Open else (if b == 41 then Mark Close else (if b == 44 then Mark Comma else (if b == 42 then Mark Star else Bad)))
 
@@ -52,6 +56,7 @@ kind_of (b ∷ bs) = if is_ascii_digit b then number_kind (number_of (b ∷ bs))
 abbrev pub first_kind : List ℕ → TokenKind
 first_kind bytes = kind_of (take (token_len bytes) bytes)
 
+-- white space adds no token
 abbrev pub joined : Bool → List Token → Token → List Token → List Token
 joined white same t ts = if white then same else t ∷ ts
 

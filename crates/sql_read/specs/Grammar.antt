@@ -23,9 +23,11 @@ more_number n = Mark mark.Comma ∷ Number n ∷ []
 abbrev pub more_column : List ℕ → List TokenKind
 more_column name = Mark mark.Comma ∷ Named name ∷ Key word.Int ∷ []
 
+-- name INT PRIMARY KEY
 abbrev pub key_column : List ℕ → Column
 key_column name = record { name = name; kind = types.Int; nullable = false; key = 1 }
 
+-- name INT
 abbrev pub plain_column : List ℕ → Column
 plain_column name = record { name = name; kind = types.Int; nullable = true; key = 0 }
 

@@ -24,10 +24,12 @@ abbrev pub Passes : {X : Type 0} → Result X ParseRefusal → Verdict → Verdi
 Passes (Ok x) before after = before ≡ after
 Passes (Err e) before after = FailsTo e before
 
+-- whether the first token is of some kind
 abbrev pub begins_with : (TokenKind → Bool) → List Token → Bool
 begins_with test [] = false
 begins_with test (t ∷ ts) = test t.kind
 
+-- where the first token stands
 abbrev pub first_place : List Token → ℕ
 first_place [] = 0
 first_place (t ∷ ts) = t.at

@@ -1,5 +1,5 @@
 -- What may still come behind a front of a batch, token by token.
-use Rattle.std.specs.Prelude.{ℕ, ◌+◌, ◌≡◌, ◌==◌, nat_le, Bool, true, false, ◌&&◌, if◌then◌else◌, List, [], ◌∷◌, ◌++◌, Option, Some, None}
+use Rattle.std.specs.Prelude.{ℕ, ◌+◌, ◌==◌, nat_le, Bool, true, false, ◌&&◌, if◌then◌else◌, List, [], ◌∷◌, ◌++◌, Option, Some, None}
 use Rattle.sql_read.specs.declared.keyword.Keyword.{Keyword}
 use Rattle.sql_read.specs.declared.keyword.Keyword.TheVariants as word
 use Rattle.sql_read.specs.declared.token.Mark.{Mark}
@@ -10,6 +10,7 @@ use Rattle.sql_read.specs.declared.token.TokenKind.TheVariants as kind
 use Rattle.sql_read.specs.Words.{is_same}
 use Rattle.sql_read.specs.Tokens.{byte_of}
 
+-- what may come next
 pub data Symbol : Type 0 where
   Key : (word : Keyword) → Symbol
   Sign : (mark : Mark) → Symbol
@@ -23,22 +24,27 @@ pub data Symbol : Type 0 where
   MoreStmts : Symbol
   Finish : Symbol
 
+-- whether a token is this reserved word
 abbrev pub is_key : Keyword → TokenKind → Bool
 is_key wanted (kind.Key found) = is_same found wanted
 is_key wanted _ = false
 
+-- whether it is this mark
 abbrev pub is_mark : Mark → TokenKind → Bool
 is_mark wanted (kind.Mark found) = byte_of found == byte_of wanted
 is_mark wanted _ = false
 
+-- whether it is a name
 abbrev pub is_name : TokenKind → Bool
 is_name (kind.Named name) = true
 is_name _ = false
 
+-- whether it is a number
 abbrev pub is_number : TokenKind → Bool
 is_number (kind.Number n) = true
 is_number _ = false
 
+-- whether it is the end
 abbrev pub is_end : TokenKind → Bool
 is_end kind.End = true
 is_end _ = false
@@ -82,6 +88,7 @@ pub data Verdict : Type 0 where
   Whole : Verdict
   Stops : (at : ℕ) → Verdict
 
+-- goes on where the table takes the token, and stops there where it doesn't
 abbrev pub onward : (List Symbol → Verdict) → Option (List Symbol) → ℕ → Verdict
 onward go None at = Stops at
 onward go (Some st) at = go st

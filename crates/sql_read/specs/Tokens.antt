@@ -1,5 +1,5 @@
 -- The tokens of a batch, and where they stand.
-use Rattle.std.specs.Prelude.{ℕ, ◌+◌, ◌*◌, ◌-◌, ◌≤◌, ◌≡◌, ◌≢◌, Bool, true, false, ◌==◌, ◌||◌, ◌&&◌, if◌then◌else◌, List, [], ◌∷◌, ◌++◌, length, map, ℤ, pos}
+use Rattle.std.specs.Prelude.{ℕ, ◌+◌, ◌*◌, ◌-◌, ◌≤◌, ◌≡◌, ◌≢◌, Bool, true, false, ◌==◌, ◌||◌, ◌&&◌, if◌then◌else◌, List, [], ◌∷◌, ◌++◌, length, map, pos}
 use Rattle.std.specs.List.{list_all}
 use Rattle.std.specs.Char.{to_ascii_lowercase, is_ascii_digit}
 use Rattle.page_base.specs.Name.{IsName, is_name_byte}
@@ -33,6 +33,7 @@ number_behind n (d ∷ ds) = number_behind (n * 10 + (d - 48)) ds
 abbrev pub number_of : List ℕ → ℕ
 number_of digits = number_behind 0 digits
 
+-- the byte of a mark
 abbrev pub byte_of : Mark → ℕ
 byte_of Open = 40
 byte_of Close = 41
@@ -62,6 +63,7 @@ IsToken bytes (kind.Number n) = Spells bytes (kind.Number n)
 IsToken bytes (kind.Mark mark) = Spells bytes (kind.Mark mark)
 IsToken bytes kind.End = ⊥
 
+-- a token of this kind at a place
 abbrev pub token : ℕ → TokenKind → Token
 token at what = record { at = at; kind = what }
 
@@ -73,5 +75,6 @@ pub data Lexes : ℕ → List ℕ → List Token → Type 0 where
       → list_all (goes_on first) more ≡ true → starts (goes_on first) rest ≡ false → IsToken (first ∷ more) what
       → Lexes (at + length (first ∷ more)) rest ts → Lexes at (first ∷ more ++ rest) (token at what ∷ ts)
 
+-- what each token is
 abbrev pub kinds : List Token → List TokenKind
 kinds ts = map (λ t. t.kind) ts

@@ -7,17 +7,14 @@ ghost use Rattle.sql_read.specs.Laws.{HasOneCutting, HasOneReading, HasOnePlace}
 /// All bytes are cut into tokens, and in one way.
 pub fn bytes_have_one_cutting()
     ensures { (batch : List ℕ) → HasOneCutting batch }
-{
-}
+{}
 
 /// A batch has one list of statements.
 pub fn batches_have_one_reading()
     ensures { (batch : List ℕ) → HasOneReading batch }
-{
-}
+{}
 
 /// Of some tokens one at most is the first that can't stand, or the first of a 65th part.
 pub fn refusals_have_one_place()
     ensures { (tokens : List Token) → HasOnePlace tokens }
-{
-}
+{}

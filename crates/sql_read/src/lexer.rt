@@ -1,13 +1,13 @@
-//! Which token stands in front of some bytes.
+//! Which token comes next among bytes.
 
-ghost use Rattle.std.specs.Prelude.{◌≡◌, ◌≤◌, ◌<◌, true, length, MatchOption, pos};
+ghost use Rattle.std.specs.Prelude.{◌≡◌, ◌≤◌, ◌<◌, ◌∷◌, true, length, MatchOption, pos};
 ghost use Rattle.std.specs.List.{list_all, prefix_len};
 ghost use Rattle.std.specs.Char.{is_ascii_digit};
 ghost use Rattle.page_base.specs.Name.{is_name_byte};
 ghost use Rattle.sql_read.specs.Tokens.{is_white, goes_on, number_of};
-ghost use Rattle.sql_read.specs.Cut.{white_len, token_len, number_kind, word_kind, mark_kind, kind_of, first_kind, IsWord, IsPiece};
+ghost use Rattle.sql_read.specs.Cut.{white_len, token_len, number_kind, word_kind, mark_kind, kind_of, first_kind, behind, tokens_from, IsWord, IsPiece};
 
-use crate::{Keyword, Mark, TokenKind};
+use crate::{Keyword, Mark, Token, TokenKind};
 use page_base::Name;
 
 // Numbers end here, as those of INT do.
@@ -37,7 +37,7 @@ fn goes_on(first: u8, byte: u8) -> bool
 }
 
 // How many bytes of white space stand in front.
-pub(crate) fn white_len(bytes: &[u8]) -> usize
+fn white_len(bytes: &[u8]) -> usize
     ensures value { result ≡ white_len bytes.now }
     ensures within { result ≤ length bytes.now }
 {
@@ -130,11 +130,27 @@ fn kind_of(token: &[u8]) -> TokenKind
 }
 
 // The token in front of bytes that don't begin with white space, and its length.
-pub(crate) fn first_token(bytes: &[u8]) -> (TokenKind, usize)
+fn first_token(bytes: &[u8]) -> (TokenKind, usize)
     ensures kind { result.0 ≡ first_kind bytes.now }
     ensures len { result.1 ≡ token_len bytes.now }
     ensures within { result.1 ≤ length bytes.now }
 {
     let len = token_len(bytes);
     (kind_of(&bytes[..len]), len)
+}
+
+// The next token from a place on, and the place behind it.
+pub(crate) fn token_from(batch: &[u8], at: usize) -> (Token, usize)
+    requires within { at ≤ length batch.now }
+    requires short { length batch.now < 4294967295 }
+    ensures tokens { result.0 ∷ behind result.0.kind (tokens_from batch.now result.1) ≡ tokens_from batch.now at }
+    ensures within { result.1 ≤ length batch.now }
+{
+    let at = at + white_len(&batch[at..]);
+    let (kind, len) = first_token(&batch[at..]);
+    let token = Token {
+        at: at as u32,
+        kind,
+    };
+    (token, at + len)
 }

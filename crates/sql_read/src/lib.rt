@@ -8,6 +8,8 @@ mod lexer;
 mod parser;
 mod refusal;
 mod statement;
+#[cfg(test)]
+mod tests;
 mod token;
 
 pub use batch::parse;

@@ -9,7 +9,7 @@ ghost use Rattle.sql_read.specs.Tokens.{kinds};
 ghost use Rattle.sql_read.specs.Table.{Symbol, Key, Sign, AnyName, AnyNumber, Part, is_key, is_mark, run};
 ghost use Rattle.sql_read.specs.Steps.{Passes, Eats, IsEnd, ReadsNumber};
 
-use crate::lexer::{first_token, white_len};
+use crate::lexer::token_from;
 use crate::{Keyword, Mark, ParseRefusal, Token, TokenKind};
 use page_base::Name;
 use plain_model::Expr;
@@ -27,6 +27,7 @@ pub(crate) struct Parser<'t> {
     ghost short: { length batch.now < 4294967295 },
 }
 
+#[tactic(auto, unfolding(crate::specs::Ahead::left))]
 impl<'t> Parser<'t> {
     ghost use Rattle.sql_read.specs.Ahead.{left};
 
@@ -34,29 +35,17 @@ impl<'t> Parser<'t> {
         requires { length batch.now < 4294967295 }
         ensures { left result ≡ tokens_from batch.now 0 }
     {
-        let mut parser = Parser {
-            batch,
-            at: 0,
-            next: Token {
-                at: 0,
-                kind: TokenKind::Bad,
-            },
-        };
-        parser.advance();
-        parser
+        let (next, at) = token_from(batch, 0);
+        Parser { batch, at, next }
     }
 
     // Reads the next token.
     fn advance(&mut self)
         ensures { left self.new ≡ tokens_from self.old.batch.now self.old.at }
     {
-        let at = self.at + white_len(&self.batch[self.at..]);
-        let (kind, len) = first_token(&self.batch[at..]);
-        self.next = Token {
-            at: at as u32,
-            kind,
-        };
-        self.at = at + len;
+        let (next, at) = token_from(self.batch, self.at);
+        self.next = next;
+        self.at = at;
     }
 
     // The refusal at the next token.
@@ -67,7 +56,6 @@ impl<'t> Parser<'t> {
     }
 
     // Whether the next token is the end.
-    #[tactic(auto, unfolding(crate::specs::Ahead::left))]
     pub(crate) fn is_at_end(&self) -> bool
         ensures { IsEnd result (left self.now) }
     {
@@ -78,7 +66,6 @@ impl<'t> Parser<'t> {
     }
 
     // Takes the reserved word.
-    #[tactic(auto, unfolding(crate::specs::Ahead::left))]
     pub(crate) fn key(&mut self, wanted: Keyword) -> Result<(), ParseRefusal>
         ensures spelled { IfOk result (λ x. kinds (left self.old) ≡ kind.Key wanted ∷ kinds (left self.new)) }
         ensures passes { (st : List Symbol) → Passes result (run true (Key wanted ∷ st) (left self.old)) (run true st (left self.new)) }
@@ -93,7 +80,6 @@ impl<'t> Parser<'t> {
     }
 
     // Takes the mark.
-    #[tactic(auto, unfolding(crate::specs::Ahead::left))]
     pub(crate) fn mark(&mut self, wanted: Mark) -> Result<(), ParseRefusal>
         ensures spelled { IfOk result (λ x. kinds (left self.old) ≡ kind.Mark wanted ∷ kinds (left self.new)) }
         ensures passes { (st : List Symbol) → Passes result (run true (Sign wanted ∷ st) (left self.old)) (run true st (left self.new)) }
@@ -109,7 +95,6 @@ impl<'t> Parser<'t> {
     }
 
     // Takes a name.
-    #[tactic(auto, unfolding(crate::specs::Ahead::left))]
     pub(crate) fn name(&mut self) -> Result<Name, ParseRefusal>
         ensures spelled { IfOk result (λ x. kinds (left self.old) ≡ kind.Named x ∷ kinds (left self.new)) }
         ensures passes { (st : List Symbol) → Passes result (run true (AnyName ∷ st) (left self.old)) (run true st (left self.new)) }
@@ -125,7 +110,6 @@ impl<'t> Parser<'t> {
     }
 
     // Takes a number.
-    #[tactic(auto, unfolding(crate::specs::Ahead::left))]
     pub(crate) fn number(&mut self) -> Result<Expr, ParseRefusal>
         ensures spelled { IfOk result (λ e. ReadsNumber e (kinds (left self.old)) (kinds (left self.new))) }
         ensures passes { (st : List Symbol) → Passes result (run true (AnyNumber ∷ st) (left self.old)) (run true st (left self.new)) }
@@ -140,7 +124,6 @@ impl<'t> Parser<'t> {
     }
 
     // Makes sure that one more part may come behind so many.
-    #[tactic(auto, unfolding(crate::specs::Ahead::left))]
     pub(crate) fn part(&self, others: usize) -> Result<(), ParseRefusal>
         ensures few { IfOk result (λ x. others < 64) }
         ensures passes { (st : List Symbol) → Passes result (run true (Part others ∷ st) (left self.now)) (run true st (left self.now)) }
@@ -153,7 +136,6 @@ impl<'t> Parser<'t> {
     }
 
     // Takes a comma where one stands.
-    #[tactic(auto, unfolding(crate::specs::Ahead::left))]
     pub(crate) fn eat_comma(&mut self) -> bool
         ensures { Eats (is_mark Comma) result (kind.Mark Comma) (left self.old) (left self.new) }
     {
@@ -167,7 +149,6 @@ impl<'t> Parser<'t> {
     }
 
     // Takes the reserved word where it stands.
-    #[tactic(auto, unfolding(crate::specs::Ahead::left))]
     pub(crate) fn eat_key(&mut self, wanted: Keyword) -> bool
         ensures { Eats (is_key wanted) result (kind.Key wanted) (left self.old) (left self.new) }
     {

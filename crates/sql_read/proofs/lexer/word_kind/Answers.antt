@@ -1,5 +1,4 @@
-use Rattle.std.proofs.Common.{arith, refl, ◌≡◌}
-use Rattle.std.specs.Prelude.{nat_le, false, length}
+use Rattle.std.proofs.Common.{refl}
 use Rattle.sql_read.proofs.Lexing.{long_word}
 use Rattle.sql_read.proofs.lexer.word_kind.Goals as goal
 

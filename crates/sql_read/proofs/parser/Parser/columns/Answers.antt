@@ -1,4 +1,4 @@
-use Rattle.std.proofs.Common.{List, ◌∷◌, ◌+◌, length, ap, ◌∙◌}
+use Rattle.std.proofs.Common.{◌∷◌, ◌+◌, length, ◌∙◌}
 use Rattle.sql_read.specs.Ahead.{left}
 use Rattle.sql_read.specs.Tokens.{kinds}
 use Rattle.sql_read.specs.declared.keyword.Keyword.TheVariants.{Int}

@@ -1,5 +1,4 @@
-use Rattle.std.proofs.Common.{List, ◌∷◌, refl}
-use Rattle.sql_read.specs.declared.token.TokenKind.{TokenKind}
+use Rattle.std.proofs.Common.{refl}
 use Rattle.sql_read.proofs.Spelling.{reads_insert}
 use Rattle.sql_read.proofs.parser.Parser.insert.Goals as goal
 

@@ -1,5 +1,4 @@
-use Rattle.std.proofs.Common.{List, ◌∷◌, refl}
-use Rattle.sql_read.specs.declared.token.TokenKind.{TokenKind}
+use Rattle.std.proofs.Common.{refl}
 use Rattle.sql_read.proofs.Spelling.{reads_select}
 use Rattle.sql_read.proofs.parser.Parser.select.Goals as goal
 

@@ -1,0 +1,241 @@
+//! Batches that are read, and the places at which others are refused.
+
+use crate::{ParseRefusal, parse};
+use page_base::{ColType, Column};
+use plain_model::{Expr, Items, SelectStmt, Stmt, StmtList};
+use std::alloc::{AllocError, Global};
+use std::test::Fail;
+
+// How many statements a batch has, or where it is refused.
+#[derive(Clone, Copy, Debug, PartialEq, Eq)]
+enum Outcome {
+    Read(usize),
+    RefusedAt(u32),
+    NoMemory,
+}
+
+fn outcome_of(alloc: Global, batch: &[u8]) -> Outcome {
+    if batch.len() > 20000000 {
+        return Outcome::NoMemory;
+    }
+    match parse(alloc, batch) {
+        Ok(stmts) => Outcome::Read(stmts.len()),
+        Err(ParseRefusal::Syntax { at }) => Outcome::RefusedAt(at),
+        Err(ParseRefusal::Memory) => Outcome::NoMemory,
+    }
+}
+
+#[test]
+fn batches_are_read_or_refused_at_their_place(rt: HostRuntime) {
+    let table = [
+        ("", Outcome::Read(0)),
+        (" \t\n \n", Outcome::Read(0)),
+        ("USE shop", Outcome::Read(1)),
+        ("use shop use Shop\nUSE\tSHOP", Outcome::Read(3)),
+        ("SELECT * FROM", Outcome::RefusedAt(13)),
+        ("SELECT * FROM  ", Outcome::RefusedAt(15)),
+        ("SELECT * FROM where", Outcome::RefusedAt(14)),
+        ("USE dbo USE name USE snapshot", Outcome::Read(3)),
+        ("USE shop ;", Outcome::RefusedAt(9)),
+        ("USE shop )", Outcome::RefusedAt(9)),
+        ("USE 1shop", Outcome::RefusedAt(4)),
+        ("USE _1", Outcome::Read(1)),
+        ("INSERT t VALUES (2147483647)", Outcome::Read(1)),
+        ("INSERT t VALUES (2147483648)", Outcome::RefusedAt(17)),
+        (
+            "INSERT t VALUES (00000000000000000000000000000001)",
+            Outcome::Read(1),
+        ),
+        ("INSERT t VALUES (1,)", Outcome::RefusedAt(19)),
+        ("INSERT t VALUES (-1)", Outcome::RefusedAt(17)),
+        ("INSERT t VALUES ()", Outcome::RefusedAt(17)),
+        ("INSERT t VALUES(1)INSERT t VALUES(2)", Outcome::Read(2)),
+        ("CREATE TABLE t (id INT, v INT)", Outcome::RefusedAt(22)),
+        (
+            "CREATE TABLE t (id INT PRIMARY KEY, v INT PRIMARY KEY)",
+            Outcome::RefusedAt(42),
+        ),
+        (
+            "CREATE TABLE key (id INT PRIMARY KEY)",
+            Outcome::RefusedAt(13),
+        ),
+        (
+            "CREATE TABLE t (id INT PRIMARY KEY, id INT)",
+            Outcome::Read(1),
+        ),
+    ];
+    for (batch, want) in table {
+        assert_eq!(rt;
+            outcome_of(rt.alloc(), batch.as_bytes()),
+            want,
+            "at {batch}"
+        );
+    }
+}
+
+// `first`, then so many times `more`, then `last`.
+fn repeated(
+    alloc: Global,
+    first: &str,
+    more: &str,
+    times: usize,
+    last: &str,
+) -> Result<String, AllocError> {
+    let mut text = String::from_str(alloc, first)?;
+    for _ in 0..times {
+        text.push_str(more)?;
+    }
+    text.push_str(last)?;
+    Ok(text)
+}
+
+#[test]
+fn limits_are_kept(rt: HostRuntime) -> Result<(), Fail> {
+    let table = [
+        // names of 128 and of 129 bytes
+        ("USE ", "n", 128, "", Outcome::Read(1)),
+        ("USE ", "n", 129, "", Outcome::RefusedAt(4)),
+        // 64 and 65 numbers; the 65th stands behind 17 bytes and 64 times two
+        ("INSERT t VALUES (1", ",1", 63, ")", Outcome::Read(1)),
+        ("INSERT t VALUES (1", ",1", 64, ")", Outcome::RefusedAt(145)),
+        ("INSERT t VALUES (1", ",1", 63, ",", Outcome::RefusedAt(145)),
+        (
+            "INSERT t VALUES (1",
+            ",1",
+            63,
+            ",)",
+            Outcome::RefusedAt(145),
+        ),
+        // 64 and 65 columns; the 65th stands behind 35 bytes and 63 times eight
+        (
+            "CREATE TABLE t (id INT PRIMARY KEY,",
+            " id INT,",
+            62,
+            " v INT)",
+            Outcome::Read(1),
+        ),
+        (
+            "CREATE TABLE t (id INT PRIMARY KEY,",
+            " id INT,",
+            63,
+            "v INT)",
+            Outcome::RefusedAt(539),
+        ),
+        ("", "USE shop ", 1000, "", Outcome::Read(1000)),
+    ];
+    for (first, more, times, last, want) in table {
+        let text = repeated(rt.alloc(), first, more, times, last)?;
+        assert_eq!(rt;
+            outcome_of(rt.alloc(), text.as_bytes()),
+            want,
+            "at {first}{times}{last}"
+        );
+    }
+    Ok(())
+}
+
+fn is_use(stmt: &Stmt, name: &[u8]) -> bool {
+    match stmt {
+        Stmt::UseDb(found) => found.is_text(name),
+        _ => false,
+    }
+}
+
+fn is_column(column: &Column, name: &[u8], key: u8) -> bool {
+    column.name.is_text(name)
+        && column.kind == ColType::Int
+        && column.key == key
+        && column.nullable == (key == 0)
+}
+
+// CREATE TABLE of a table with these columns, of which the first is the key.
+fn is_create(stmt: &Stmt, name: &[u8], columns: &[&[u8]]) -> bool {
+    match stmt {
+        Stmt::CreateTable(found, kept) => {
+            let kept = kept.as_slice();
+            found.is_text(name)
+                && kept.len() == columns.len()
+                && kept.iter().zip(columns).enumerate().all(|(i, (column, name))| is_column(
+                    column,
+                    name,
+                    if i == 0 { 1 } else { 0 },
+                ))
+        }
+        _ => false,
+    }
+}
+
+fn is_number(expr: &Expr, number: i64) -> bool {
+    match expr {
+        Expr::Number(found) => *found == number,
+        _ => false,
+    }
+}
+
+// INSERT of one row of numbers without a list of columns.
+fn is_insert(stmt: &Stmt, table: &[u8], numbers: &[i64]) -> bool {
+    match stmt {
+        Stmt::Insert(insert) if insert.cols.is_empty() && insert.rows.len() == 1 => {
+            let row = insert.rows.at(0).as_slice();
+            insert.table.is_text(table)
+                && row.len() == numbers.len()
+                && row
+                    .iter()
+                    .zip(numbers)
+                    .all(|(expr, number)| is_number(expr, *number))
+        }
+        _ => false,
+    }
+}
+
+fn is_select_all(stmt: &Stmt, table: &[u8]) -> bool {
+    match stmt {
+        Stmt::Select(
+            SelectStmt {
+                table: found,
+                items: Items::Star,
+                filter: None,
+                order,
+            },
+        ) => found.is_text(table) && order.is_empty(),
+        _ => false,
+    }
+}
+
+fn read(alloc: Global, batch: &[u8]) -> Result<StmtList, ParseRefusal> {
+    if batch.len() > 20000000 {
+        return Err(ParseRefusal::Memory);
+    }
+    parse(alloc, batch)
+}
+
+#[test]
+fn statements_have_their_trees(rt: HostRuntime) -> Result<(), Fail> {
+    let stmts = read(
+        rt.alloc(),
+        b"USE Shop\nCREATE TABLE t (id INT PRIMARY KEY, v INT)\nINSERT T VALUES (1, 10)\nselect * from t".as_slice(),
+    )?;
+    assert_eq!(rt; stmts.len(), 4);
+    assert!(rt; is_use(stmts.at(0), b"shop".as_slice()));
+    assert!(rt;
+        is_create(
+            stmts.at(1),
+            b"t".as_slice(),
+            [b"id".as_slice(), b"v".as_slice()].as_slice()
+        )
+    );
+    assert!(rt; is_insert(stmts.at(2), b"t".as_slice(), [1, 10].as_slice()));
+    assert!(rt; is_select_all(stmts.at(3), b"t".as_slice()));
+    Ok(())
+}
+
+#[test]
+fn a_column_named_twice_leaves_none(rt: HostRuntime) -> Result<(), Fail> {
+    let stmts = read(
+        rt.alloc(),
+        b"CREATE TABLE t (a INT PRIMARY KEY, b INT, A INT)".as_slice(),
+    )?;
+    assert_eq!(rt; stmts.len(), 1);
+    assert!(rt; is_create(stmts.at(0), b"t".as_slice(), [].as_slice()));
+    Ok(())
+}
