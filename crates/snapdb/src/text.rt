@@ -3,9 +3,10 @@
 ghost use Rattle.std.specs.Prelude.{◌≡◌, ◌++◌, ◌∷◌, [], OnOk, IfOk, ℤ, codes};
 ghost use Rattle.std.specs.Fmt.{decimal, signed_decimal};
 ghost use Rattle.std.specs.List.{flat_map};
+ghost use Rattle.plain_model.specs.declared.event.Event.TheVariants.{Locked, Turned, Said, Left};
 ghost use Rattle.plain_model.specs.Printed.{printed, event_text, reply_text, row_text, value_text, lock_text, mode_text, carried_text, quoted, next_value_text, values_text};
 
-use page_base::{Mode, Row, Value};
+use page_base::{Mode, Name, Row, SessNo, Value};
 use plain_model::{Book, Carried, Event, LockName, Reply};
 use std::alloc::{AllocError, Global};
 
@@ -149,53 +150,88 @@ fn push_mode(text: &mut Vec<u8>, mode: Mode) -> Result<(), AllocError>
     }
 }
 
+fn push_locked(
+    alloc: Global,
+    text: &mut Vec<u8>,
+    who: SessNo,
+    table: &LockName,
+    mode: Mode,
+) -> Result<(), AllocError>
+    ensures { OnOk result (text.new.items ≡ text.old.items ++ event_text (Locked who table.now mode)) }
+{
+    push_number(alloc, text, u64::from(who.0))?;
+    text.extend_from_slice(b" lock ")?;
+    push_lock(text, table)?;
+    text.extend_from_slice(b" ")?;
+    push_mode(text, mode)?;
+    text.extend_from_slice(b"\n")
+}
+
+// What a session does with a snapshot.
+fn push_deed(
+    alloc: Global,
+    text: &mut Vec<u8>,
+    who: SessNo,
+    deed: &[u8],
+    snap: &Name,
+) -> Result<(), AllocError>
+    ensures { OnOk result (text.new.items ≡ text.old.items ++ (decimal who.0 ++ deed.now ++ snap.now ++ codes "\n")) }
+{
+    push_number(alloc, text, u64::from(who.0))?;
+    text.extend_from_slice(deed)?;
+    text.extend_from_slice(snap.bytes())?;
+    text.extend_from_slice(b"\n")
+}
+
+fn push_turned(text: &mut Vec<u8>, snap: &Name) -> Result<(), AllocError>
+    ensures { OnOk result (text.new.items ≡ text.old.items ++ event_text (Turned snap.now)) }
+{
+    text.extend_from_slice(b"turned ")?;
+    text.extend_from_slice(snap.bytes())?;
+    text.extend_from_slice(b"\n")
+}
+
+fn push_said(
+    alloc: Global,
+    text: &mut Vec<u8>,
+    who: SessNo,
+    number: u32,
+    began: u32,
+    reply: &Reply,
+) -> Result<(), AllocError>
+    ensures { OnOk result (text.new.items ≡ text.old.items ++ event_text (Said who number began reply.now)) }
+{
+    push_number(alloc, text, u64::from(who.0))?;
+    text.extend_from_slice(b" said ")?;
+    push_number(alloc, text, u64::from(number))?;
+    text.extend_from_slice(b" ")?;
+    push_number(alloc, text, u64::from(began))?;
+    text.extend_from_slice(b" ")?;
+    push_reply(alloc, text, reply)
+}
+
+fn push_left(alloc: Global, text: &mut Vec<u8>, who: SessNo) -> Result<(), AllocError>
+    ensures { OnOk result (text.new.items ≡ text.old.items ++ event_text (Left who)) }
+{
+    push_number(alloc, text, u64::from(who.0))?;
+    text.extend_from_slice(b" left\n")
+}
+
 fn push_event(alloc: Global, text: &mut Vec<u8>, event: &Event) -> Result<(), AllocError>
     ensures { OnOk result (text.new.items ≡ text.old.items ++ event_text event.now) }
 {
     match event {
-        Event::Locked { who, table, mode } => {
-            push_number(alloc, text, u64::from(who.0))?;
-            text.extend_from_slice(b" lock ")?;
-            push_lock(text, table)?;
-            text.extend_from_slice(b" ")?;
-            push_mode(text, *mode)?;
-            text.extend_from_slice(b"\n")
-        }
-        Event::CutAt { who, snap } => {
-            push_number(alloc, text, u64::from(who.0))?;
-            text.extend_from_slice(b" cut ")?;
-            text.extend_from_slice(snap.bytes())?;
-            text.extend_from_slice(b"\n")
-        }
-        Event::RestoreAt { who, snap } => {
-            push_number(alloc, text, u64::from(who.0))?;
-            text.extend_from_slice(b" restore ")?;
-            text.extend_from_slice(snap.bytes())?;
-            text.extend_from_slice(b"\n")
-        }
-        Event::Turned { snap } => {
-            text.extend_from_slice(b"turned ")?;
-            text.extend_from_slice(snap.bytes())?;
-            text.extend_from_slice(b"\n")
-        }
+        Event::Locked { who, table, mode } => push_locked(alloc, text, *who, table, *mode),
+        Event::CutAt { who, snap } => push_deed(alloc, text, *who, b" cut ", snap),
+        Event::RestoreAt { who, snap } => push_deed(alloc, text, *who, b" restore ", snap),
+        Event::Turned { snap } => push_turned(text, snap),
         Event::Said {
             who,
             number,
             began,
             reply,
-        } => {
-            push_number(alloc, text, u64::from(who.0))?;
-            text.extend_from_slice(b" said ")?;
-            push_number(alloc, text, u64::from(*number))?;
-            text.extend_from_slice(b" ")?;
-            push_number(alloc, text, u64::from(*began))?;
-            text.extend_from_slice(b" ")?;
-            push_reply(alloc, text, reply)
-        }
-        Event::Left { who } => {
-            push_number(alloc, text, u64::from(who.0))?;
-            text.extend_from_slice(b" left\n")
-        }
+        } => push_said(alloc, text, *who, *number, *began, reply),
+        Event::Left { who } => push_left(alloc, text, *who),
     }
 }
 
