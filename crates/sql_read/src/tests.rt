@@ -25,46 +25,47 @@ fn outcome_of(alloc: Global, batch: &[u8]) -> Outcome {
     }
 }
 
+const BATCHES: [(&str, Outcome); 23] = [
+    ("", Outcome::Read(0)),
+    (" \t\n \n", Outcome::Read(0)),
+    ("USE shop", Outcome::Read(1)),
+    ("use shop use Shop\nUSE\tSHOP", Outcome::Read(3)),
+    ("SELECT * FROM", Outcome::RefusedAt(13)),
+    ("SELECT * FROM  ", Outcome::RefusedAt(15)),
+    ("SELECT * FROM where", Outcome::RefusedAt(14)),
+    ("USE dbo USE name USE snapshot", Outcome::Read(3)),
+    ("USE shop ;", Outcome::RefusedAt(9)),
+    ("USE shop )", Outcome::RefusedAt(9)),
+    ("USE 1shop", Outcome::RefusedAt(4)),
+    ("USE _1", Outcome::Read(1)),
+    ("INSERT t VALUES (2147483647)", Outcome::Read(1)),
+    ("INSERT t VALUES (2147483648)", Outcome::RefusedAt(17)),
+    (
+        "INSERT t VALUES (00000000000000000000000000000001)",
+        Outcome::Read(1),
+    ),
+    ("INSERT t VALUES (1,)", Outcome::RefusedAt(19)),
+    ("INSERT t VALUES (-1)", Outcome::RefusedAt(17)),
+    ("INSERT t VALUES ()", Outcome::RefusedAt(17)),
+    ("INSERT t VALUES(1)INSERT t VALUES(2)", Outcome::Read(2)),
+    ("CREATE TABLE t (id INT, v INT)", Outcome::RefusedAt(22)),
+    (
+        "CREATE TABLE t (id INT PRIMARY KEY, v INT PRIMARY KEY)",
+        Outcome::RefusedAt(42),
+    ),
+    (
+        "CREATE TABLE key (id INT PRIMARY KEY)",
+        Outcome::RefusedAt(13),
+    ),
+    (
+        "CREATE TABLE t (id INT PRIMARY KEY, id INT)",
+        Outcome::Read(1),
+    ),
+];
+
 #[test]
 fn batches_are_read_or_refused_at_their_place(rt: HostRuntime) {
-    let table = [
-        ("", Outcome::Read(0)),
-        (" \t\n \n", Outcome::Read(0)),
-        ("USE shop", Outcome::Read(1)),
-        ("use shop use Shop\nUSE\tSHOP", Outcome::Read(3)),
-        ("SELECT * FROM", Outcome::RefusedAt(13)),
-        ("SELECT * FROM  ", Outcome::RefusedAt(15)),
-        ("SELECT * FROM where", Outcome::RefusedAt(14)),
-        ("USE dbo USE name USE snapshot", Outcome::Read(3)),
-        ("USE shop ;", Outcome::RefusedAt(9)),
-        ("USE shop )", Outcome::RefusedAt(9)),
-        ("USE 1shop", Outcome::RefusedAt(4)),
-        ("USE _1", Outcome::Read(1)),
-        ("INSERT t VALUES (2147483647)", Outcome::Read(1)),
-        ("INSERT t VALUES (2147483648)", Outcome::RefusedAt(17)),
-        (
-            "INSERT t VALUES (00000000000000000000000000000001)",
-            Outcome::Read(1),
-        ),
-        ("INSERT t VALUES (1,)", Outcome::RefusedAt(19)),
-        ("INSERT t VALUES (-1)", Outcome::RefusedAt(17)),
-        ("INSERT t VALUES ()", Outcome::RefusedAt(17)),
-        ("INSERT t VALUES(1)INSERT t VALUES(2)", Outcome::Read(2)),
-        ("CREATE TABLE t (id INT, v INT)", Outcome::RefusedAt(22)),
-        (
-            "CREATE TABLE t (id INT PRIMARY KEY, v INT PRIMARY KEY)",
-            Outcome::RefusedAt(42),
-        ),
-        (
-            "CREATE TABLE key (id INT PRIMARY KEY)",
-            Outcome::RefusedAt(13),
-        ),
-        (
-            "CREATE TABLE t (id INT PRIMARY KEY, id INT)",
-            Outcome::Read(1),
-        ),
-    ];
-    for (batch, want) in table {
+    for (batch, want) in BATCHES {
         assert_eq!(rt;
             outcome_of(rt.alloc(), batch.as_bytes()),
             want,
@@ -89,41 +90,43 @@ fn repeated(
     Ok(text)
 }
 
+// A front, a part and how often it stands, an end, and what comes of them.
+const LONG_BATCHES: [(&str, &str, usize, &str, Outcome); 9] = [
+    // names of 128 and of 129 bytes
+    ("USE ", "n", 128, "", Outcome::Read(1)),
+    ("USE ", "n", 129, "", Outcome::RefusedAt(4)),
+    // 64 and 65 numbers; the 65th stands behind 17 bytes and 64 times two
+    ("INSERT t VALUES (1", ",1", 63, ")", Outcome::Read(1)),
+    ("INSERT t VALUES (1", ",1", 64, ")", Outcome::RefusedAt(145)),
+    ("INSERT t VALUES (1", ",1", 63, ",", Outcome::RefusedAt(145)),
+    (
+        "INSERT t VALUES (1",
+        ",1",
+        63,
+        ",)",
+        Outcome::RefusedAt(145),
+    ),
+    // 64 and 65 columns; the 65th stands behind 35 bytes and 63 times eight
+    (
+        "CREATE TABLE t (id INT PRIMARY KEY,",
+        " id INT,",
+        62,
+        " v INT)",
+        Outcome::Read(1),
+    ),
+    (
+        "CREATE TABLE t (id INT PRIMARY KEY,",
+        " id INT,",
+        63,
+        "v INT)",
+        Outcome::RefusedAt(539),
+    ),
+    ("", "USE shop ", 1000, "", Outcome::Read(1000)),
+];
+
 #[test]
 fn limits_are_kept(rt: HostRuntime) -> Result<(), Fail> {
-    let table = [
-        // names of 128 and of 129 bytes
-        ("USE ", "n", 128, "", Outcome::Read(1)),
-        ("USE ", "n", 129, "", Outcome::RefusedAt(4)),
-        // 64 and 65 numbers; the 65th stands behind 17 bytes and 64 times two
-        ("INSERT t VALUES (1", ",1", 63, ")", Outcome::Read(1)),
-        ("INSERT t VALUES (1", ",1", 64, ")", Outcome::RefusedAt(145)),
-        ("INSERT t VALUES (1", ",1", 63, ",", Outcome::RefusedAt(145)),
-        (
-            "INSERT t VALUES (1",
-            ",1",
-            63,
-            ",)",
-            Outcome::RefusedAt(145),
-        ),
-        // 64 and 65 columns; the 65th stands behind 35 bytes and 63 times eight
-        (
-            "CREATE TABLE t (id INT PRIMARY KEY,",
-            " id INT,",
-            62,
-            " v INT)",
-            Outcome::Read(1),
-        ),
-        (
-            "CREATE TABLE t (id INT PRIMARY KEY,",
-            " id INT,",
-            63,
-            "v INT)",
-            Outcome::RefusedAt(539),
-        ),
-        ("", "USE shop ", 1000, "", Outcome::Read(1000)),
-    ];
-    for (first, more, times, last, want) in table {
+    for (first, more, times, last, want) in LONG_BATCHES {
         let text = repeated(rt.alloc(), first, more, times, last)?;
         assert_eq!(rt;
             outcome_of(rt.alloc(), text.as_bytes()),
