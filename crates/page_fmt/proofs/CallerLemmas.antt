@@ -5,7 +5,7 @@ use Rattle.std.proofs.lemmas.List.{get_or_past, set_past, replicate-append-repli
 use Rattle.page_base.specs.Pages.{blank}
 use Rattle.page_fmt.specs.Spelling.{spell, header, LastIsFull}
 use Rattle.page_fmt.specs.Content.{content, IsPage}
-use Rattle.page_fmt.specs.Edits.{trimmed, cleared, with_slot, slot_at}
+use Rattle.page_fmt.specs.Edits.{trimmed, cleared, edited, slot_at}
 use Rattle.page_fmt.proofs.SlotLemmas.{get_or-set_slot_same, get_or-set_slot_other, LastIsFull-set_slot}
 use Rattle.page_fmt.proofs.PaddingLemmas.{empties, trimmed-parts, LastIsFull-trimmed}
 use Rattle.page_fmt.proofs.SetLemmas.{page_of, content_of}
@@ -48,19 +48,19 @@ slot_at-cleared_same xs i =
 slot_at-cleared_other : (xs : List (List ℕ)) (i j : ℕ) → j ≢ i → slot_at (cleared xs i) j ≡ slot_at xs j
 slot_at-cleared_other xs i j ne = slot_at-trimmed (set xs i []) j ∙ get_or-set_other xs i j [] [] ne
 
-pub slot_at-with_slot_same : (slots : List (List ℕ)) (i : ℕ) (x : List ℕ) → slot_at (with_slot slots i x) i ≡ x
-slot_at-with_slot_same slots i [] = slot_at-cleared_same slots i
-slot_at-with_slot_same slots i (b ∷ bs) = get_or-set_slot_same slots i (b ∷ bs)
+pub slot_at-edited_same : (slots : List (List ℕ)) (i : ℕ) (x : List ℕ) → slot_at (edited slots i x) i ≡ x
+slot_at-edited_same slots i [] = slot_at-cleared_same slots i
+slot_at-edited_same slots i (b ∷ bs) = get_or-set_slot_same slots i (b ∷ bs)
 
-pub slot_at-with_slot_other : (slots : List (List ℕ)) (i j : ℕ) (x : List ℕ) → j ≢ i → slot_at (with_slot slots i x) j ≡ slot_at slots j
-slot_at-with_slot_other slots i j [] ne = slot_at-cleared_other slots i j ne
-slot_at-with_slot_other slots i j (b ∷ bs) ne = get_or-set_slot_other slots i j (b ∷ bs) ne
+pub slot_at-edited_other : (slots : List (List ℕ)) (i j : ℕ) (x : List ℕ) → j ≢ i → slot_at (edited slots i x) j ≡ slot_at slots j
+slot_at-edited_other slots i j [] ne = slot_at-cleared_other slots i j ne
+slot_at-edited_other slots i j (b ∷ bs) ne = get_or-set_slot_other slots i j (b ∷ bs) ne
 
 -- all slots at once, as a function
-pub slot_at-with_slot : (slots : List (List ℕ)) (i : ℕ) (x : List ℕ) → slot_at (with_slot slots i x) ≡ (λ j. cond (j == i) x (slot_at slots j))
-slot_at-with_slot slots i x = λ p j. (elim (cases_eq j i) as (λ c. slot_at (with_slot slots i x) j ≡ cond (j == i) x (slot_at slots j)) [
-  | inl e ↦ ap (slot_at (with_slot slots i x)) e ∙ slot_at-with_slot_same slots i x ∙ sym (ap (λ b. cond b x (slot_at slots j)) (eq-eqb j i e))
-  | inr ne ↦ slot_at-with_slot_other slots i j x ne ∙ sym (ap (λ b. cond b x (slot_at slots j)) (ne_eqb j i ne))
+pub slot_at-edited : (slots : List (List ℕ)) (i : ℕ) (x : List ℕ) → slot_at (edited slots i x) ≡ (λ j. cond (i == j) x (slot_at slots j))
+slot_at-edited slots i x = λ p j. (elim (cases_eq i j) as (λ c. slot_at (edited slots i x) j ≡ cond (i == j) x (slot_at slots j)) [
+  | inl e ↦ ap (slot_at (edited slots i x)) (sym e) ∙ slot_at-edited_same slots i x ∙ sym (ap (λ b. cond b x (slot_at slots j)) (eq-eqb i j e))
+  | inr ne ↦ slot_at-edited_other slots i j x (λ e. ne (sym e)) ∙ sym (ap (λ b. cond b x (slot_at slots j)) (ne_eqb i j ne))
 ]) p
 
 -- THE SLOTS TELL A PAGE
@@ -84,12 +84,12 @@ pub same_page : (a b : List ℕ) → IsPage a → IsPage b → ((j : ℕ) → sl
 same_page a b ha hb h = ha.spelled ∙ ap spell (same_slots (content a) (content b) ha.fits.last hb.fits.last h) ∙ sym hb.spelled
 
 -- a slot that has these bytes already
-pub with_slot-same : (slots : List (List ℕ)) (i : ℕ) → LastIsFull slots → with_slot slots i (slot_at slots i) ≡ slots
-with_slot-same slots i last = same_slots (with_slot slots i (slot_at slots i)) slots (fits slots i (slot_at slots i) last) last (λ j. elim (cases_eq j i) [
-  | inl e ↦ ap (slot_at (with_slot slots i (slot_at slots i))) e ∙ slot_at-with_slot_same slots i (slot_at slots i) ∙ ap (slot_at slots) (sym e)
-  | inr ne ↦ slot_at-with_slot_other slots i j (slot_at slots i) ne
+pub edited-same : (slots : List (List ℕ)) (i : ℕ) → LastIsFull slots → edited slots i (slot_at slots i) ≡ slots
+edited-same slots i last = same_slots (edited slots i (slot_at slots i)) slots (fits slots i (slot_at slots i) last) last (λ j. elim (cases_eq j i) [
+  | inl e ↦ ap (slot_at (edited slots i (slot_at slots i))) e ∙ slot_at-edited_same slots i (slot_at slots i) ∙ ap (slot_at slots) (sym e)
+  | inr ne ↦ slot_at-edited_other slots i j (slot_at slots i) ne
 ])
   where
-    fits : (slots : List (List ℕ)) (i : ℕ) (x : List ℕ) → LastIsFull slots → LastIsFull (with_slot slots i x)
+    fits : (slots : List (List ℕ)) (i : ℕ) (x : List ℕ) → LastIsFull slots → LastIsFull (edited slots i x)
     fits slots i [] last = LastIsFull-trimmed (set slots i [])
     fits slots i (b ∷ bs) last = LastIsFull-set_slot slots i (b ∷ bs) (λ e. cc) last

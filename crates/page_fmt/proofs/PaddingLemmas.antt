@@ -44,8 +44,9 @@ body-empties xs k small =
     ap table (offsets-append 96 xs (empties k)) ∙ table-append (offsets 96 xs) (offsets (96 + row_bytes xs) (empties k)) ∙ ap (λ e. e ++ t) (table-empties k (96 + row_bytes xs)) in
     let free : ℕ = 8192 - used (xs ++ empties k) in
     let free_is : free + 2 * k ≡ 8192 - used xs = omega (arith, used-empties xs k) in
-    (λ i. rows_are i ++ (zeros free ++ table_is i))
-    ∙ ap (λ z. rows xs ++ z) (sym (append_assoc (zeros free) (zeros (2 * k)) t) ∙ ap (λ z. z ++ t) (replicate-append-replicate free (2 * k) 0 ∙ ap zeros free_is))
+    let joined : zeros free ++ (zeros (2 * k) ++ t) ≡ zeros (8192 - used xs) ++ t =
+    sym (append_assoc (zeros free) (zeros (2 * k)) t) ∙ ap (λ z. z ++ t) (replicate-append-replicate free (2 * k) 0 ∙ ap zeros free_is) in
+    (λ i. rows_are i ++ (zeros free ++ table_is i)) ∙ (λ i. rows xs ++ joined i)
 
 pub spell-body : (xs : List (List ℕ)) → spell xs ≡ header (length xs) (row_bytes xs) ++ body xs
 unfolding spell body

@@ -30,9 +30,9 @@ pub record LacksRoom (old new : List (List ℕ)) (need free : ℕ) : Type 0 wher
   pub lacks : free < need
 
 -- slot i has these bytes; it is emptied where there are none
-abbrev pub with_slot : List (List ℕ) → ℕ → List ℕ → List (List ℕ)
-with_slot slots i [] = cleared slots i
-with_slot slots i (b ∷ bs) = set_slot slots i (b ∷ bs)
+abbrev pub edited : List (List ℕ) → ℕ → List ℕ → List (List ℕ)
+edited slots i [] = cleared slots i
+edited slots i (b ∷ bs) = set_slot slots i (b ∷ bs)
 
 -- the bytes of slot i, none where it is empty or past the last one
 abbrev pub slot_at : List (List ℕ) → ℕ → List ℕ
