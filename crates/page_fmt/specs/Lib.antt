@@ -1,0 +1,5 @@
+pub mod Spelling
+pub mod Content
+pub mod Edits
+pub mod Faults
+pub mod Places

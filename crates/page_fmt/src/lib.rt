@@ -1,0 +1,16 @@
+//! Pages of slots: what is a page, its slots, and edits of one slot in place.
+#![tactic(auto)]
+
+mod checking;
+mod editing;
+mod edits;
+mod moving;
+mod numbers;
+mod reading;
+mod splicing;
+#[cfg(test)]
+mod tests;
+
+pub use checking::{BadPage, check};
+pub use edits::{NoRoom, clear_slot, put_slot};
+pub use reading::{slot, slots};
