@@ -3,7 +3,7 @@ use Rattle.std.specs.Prelude.{ℕ, ◌+◌, ◌≡◌, ◌<◌, ◌==◌, if◌t
 use Rattle.std.specs.List.{filter_map, range_with_len}
 use Rattle.plain_model.specs.declared.stmt.Stmt.{Stmt}
 use Rattle.plain_model.specs.declared.event.Event.{Event}
-use Rattle.plain_model.specs.declared.event.Event.TheVariants.{Locked, CutAt, RestoreAt, Turned, Said, Left}
+use Rattle.plain_model.specs.declared.event.Event.TheVariants.{Said, Left}
 
 -- what an event tells of how far session k is: a statement of it was answered, by its number, or it left
 pub data Mark : Type 0 where

@@ -1,16 +1,15 @@
 -- Which event may come in a state, and where it leads: legal histories.
-use Rattle.std.specs.Prelude.{ℕ, ◌+◌, ◌-◌, ◌<◌, ◌≤◌, ◌≡◌, Bool, true, false, ◌==◌, ◌&&◌, not, if◌then◌else◌, List, [], ◌∷◌, ◌++◌, map, filter, length, slice_set, Option, Some, None, is_none, unwrap_or, IsTrue}
+use Rattle.std.specs.Prelude.{ℕ, ◌+◌, ◌-◌, ◌≤◌, ◌≡◌, true, false, ◌==◌, ◌&&◌, not, if◌then◌else◌, List, [], ◌∷◌, ◌++◌, map, filter, slice_set, Option, Some, None, unwrap_or, IsTrue}
 use Rattle.std.specs.Str.{bytes_eq}
 use Rattle.std.specs.List.{list_any}
 use Rattle.plain_model.specs.declared.stmt.Stmt.{Stmt}
 use Rattle.plain_model.specs.declared.stmt.Stmt.TheVariants.{UseDb, CreateTable, Insert, CreateSnap}
-use Rattle.plain_model.specs.declared.stmt.SnapFile.{SnapFile}
 use Rattle.plain_model.specs.declared.event.Event.{Event}
 use Rattle.plain_model.specs.declared.event.Event.TheVariants.{Locked, CutAt, RestoreAt, Turned, Said, Left}
 use Rattle.plain_model.specs.declared.reply.Reply.{Reply}
-use Rattle.plain_model.specs.declared.reply.Reply.TheVariants.{Ok, Count, Rows, Msg}
+use Rattle.plain_model.specs.declared.reply.Reply.TheVariants.{Msg}
 use Rattle.plain_model.specs.Tables.{Change}
-use Rattle.plain_model.specs.Journal.{Opening, Entry, Committed, Cut}
+use Rattle.plain_model.specs.Journal.{Opening, Committed, Cut}
 use Rattle.plain_model.specs.State.{Plain, Session, Snap, session, stmt_of, is_session, is_snap, is_suspect, see, master, start}
 use Rattle.plain_model.specs.Meaning.{change_and_reply}
 use Rattle.plain_model.specs.Next.{Replies, Wants, Cuts, Restores, next}

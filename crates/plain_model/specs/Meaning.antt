@@ -1,20 +1,15 @@
 -- What a table statement means over whole tables: its refusals by shape, its changes and its reply.
-use Rattle.std.specs.Prelude.{ℕ, ℤ, pos, ◌+◌, ◌≤ℤ◌, Bool, true, false, ◌==◌, ◌&&◌, not, nat_le, if◌then◌else◌, List, [], ◌∷◌, length, map, Option, Some, None, unwrap_or}
+use Rattle.std.specs.Prelude.{ℕ, ◌+◌, ◌==◌, if◌then◌else◌, List, [], ◌∷◌, length, map, Option, Some, None, unwrap_or}
 use Rattle.std.specs.List.{list_all}
 use Rattle.std.specs.FinMap as finite
 use Rattle.page_base.specs.declared.column.Column.{Column}
-use Rattle.page_base.specs.declared.column.ColType.{ColType}
-use Rattle.page_base.specs.declared.column.ColType.TheVariants as types
 use Rattle.page_base.specs.declared.value.Value.{Value}
 use Rattle.page_base.specs.declared.value.Value.TheVariants.{Null, Int, Big}
 use Rattle.plain_model.specs.declared.expr.Expr.{Expr}
 use Rattle.plain_model.specs.declared.expr.Expr as code
 use Rattle.plain_model.specs.declared.stmt.Stmt.{Stmt}
-use Rattle.plain_model.specs.declared.stmt.Stmt.TheVariants.{UseDb, CreateTable, Insert, Select, Broken}
+use Rattle.plain_model.specs.declared.stmt.Stmt.TheVariants.{CreateTable, Insert, Select}
 use Rattle.plain_model.specs.declared.stmt.InsertStmt.{InsertStmt}
-use Rattle.plain_model.specs.declared.stmt.SelectStmt.{SelectStmt}
-use Rattle.plain_model.specs.declared.stmt.Items.{Items}
-use Rattle.plain_model.specs.declared.stmt.Items.TheVariants.{Star}
 use Rattle.plain_model.specs.declared.reply.Message.{Message}
 use Rattle.plain_model.specs.declared.reply.Carried.TheVariants.{Nothing, Number}
 use Rattle.plain_model.specs.declared.reply.Reply.{Reply}

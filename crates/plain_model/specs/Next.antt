@@ -1,5 +1,5 @@
 -- What comes next of a session: its reply, a lock, a cut or a revert, decided from left to right by the order of refusals.
-use Rattle.std.specs.Prelude.{ℕ, ◌+◌, ℤ, pos, negsuc, ◌-◌, nat_le, Bool, true, false, ◌==◌, ◌&&◌, ◌||◌, not, if◌then◌else◌, List, [], ◌∷◌, length, Option, Some, None, is_none}
+use Rattle.std.specs.Prelude.{ℕ, pos, negsuc, nat_le, Bool, true, false, ◌==◌, ◌&&◌, ◌||◌, not, if◌then◌else◌, List, [], ◌∷◌, length, Option, Some, None, is_none}
 use Rattle.std.specs.Str.{bytes_eq}
 use Rattle.std.specs.List.{list_all}
 use Rattle.std.specs.Ordering.{int_cmp, is_gt}
@@ -12,8 +12,6 @@ use Rattle.plain_model.specs.declared.expr.Expr.{Expr}
 use Rattle.plain_model.specs.declared.expr.Expr as code
 use Rattle.plain_model.specs.declared.stmt.Stmt.{Stmt}
 use Rattle.plain_model.specs.declared.stmt.Stmt.TheVariants.{UseDb, CreateTable, Insert, Select, Broken}
-use Rattle.plain_model.specs.declared.stmt.InsertStmt.{InsertStmt}
-use Rattle.plain_model.specs.declared.stmt.SelectStmt.{SelectStmt}
 use Rattle.plain_model.specs.declared.stmt.Items.{Items}
 use Rattle.plain_model.specs.declared.stmt.Items.TheVariants.{Star}
 use Rattle.plain_model.specs.declared.event.LockName.{LockName}
@@ -87,9 +85,9 @@ abbrev pub next_select : Plain → ℕ → Stmt → List ℕ → Next
 next_select st k stmt table =
     let current = (session st k).current in
     if is_source st current then
-      under st k All S (unless_shape (shape stmt (see st k)) (under st k (Table table) S (answers stmt (see st k))))
+    under st k All S (unless_shape (shape stmt (see st k)) (under st k (Table table) S (answers stmt (see st k))))
     else (if is_snap st current then
-      unless ((is_suspect st current, plain 926) ∷ []) (unless_shape (shape stmt (copy st current)) (answers stmt (copy st current)))
+    unless ((is_suspect st current, plain 926) ∷ []) (unless_shape (shape stmt (copy st current)) (answers stmt (copy st current)))
     else Replies (Msg (plain 208)))
 
 abbrev pub is_int : Column → Bool

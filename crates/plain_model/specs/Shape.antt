@@ -1,5 +1,5 @@
 -- What can be read off an expression before it is worked out: its kind, its texts and columns, its size.
-use Rattle.std.specs.Prelude.{ℕ, ◌+◌, ◌≤◌, nat_le, max, Bool, true, false, ◌&&◌, List}
+use Rattle.std.specs.Prelude.{ℕ, ◌+◌, nat_le, max, Bool, true, false, ◌&&◌}
 use Rattle.std.specs.List.{list_all}
 use Rattle.plain_model.specs.Tree.{Tree, Entries, Null, Number, Text, Col, Neg, Math, Compare, IsNull, Between, In, Not, And, Or, Last, More}
 

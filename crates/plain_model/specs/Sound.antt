@@ -1,5 +1,5 @@
 -- What the types of statement lists keep of each statement.
-use Rattle.std.specs.Prelude.{ℕ, ◌≡◌, ◌≤◌, nat_le, length, filter, sum_by, Bool, true, false, ◌==◌, ◌&&◌, ◌||◌, not, List, [], ◌∷◌, map, Option, Some, None}
+use Rattle.std.specs.Prelude.{ℕ, ◌≡◌, ◌≤◌, nat_le, length, filter, sum_by, Bool, true, ◌==◌, ◌&&◌, ◌||◌, not, List, [], ◌∷◌, map, Option, Some, None}
 use Rattle.std.specs.List.{list_all, list_any, range_with_len}
 use Rattle.std.specs.Str.{bytes_eq}
 use Rattle.page_base.specs.declared.column.Column.{Column}

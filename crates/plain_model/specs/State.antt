@@ -1,5 +1,5 @@
 -- The state of the plain machine.
-use Rattle.std.specs.Prelude.{ℕ, ◌+◌, ◌-◌, nat_le, Bool, true, false, ◌&&◌, ◌||◌, not, List, [], ◌∷◌, length, map, find, slice_get, slice_index_or, Option, Some, None, is_some, codes}
+use Rattle.std.specs.Prelude.{ℕ, ◌-◌, nat_le, Bool, false, ◌&&◌, ◌||◌, List, [], length, map, find, slice_get, slice_index_or, Option, Some, None, is_some, codes}
 use Rattle.std.specs.Str.{bytes_eq}
 use Rattle.std.specs.List.{list_any}
 use Rattle.page_base.specs.declared.numbers.Mode.{Mode}

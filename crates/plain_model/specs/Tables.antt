@@ -1,5 +1,5 @@
 -- Whole tables, and what changes them.
-use Rattle.std.specs.Prelude.{ℕ, nat_le, length, List, [], ◌∷◌, Option, Some, None, map, filter, ◌==◌, if◌then◌else◌, slice_index_or}
+use Rattle.std.specs.Prelude.{ℕ, nat_le, length, List, [], ◌∷◌, Option, Some, None, map, filter, ◌==◌, if◌then◌else◌}
 use Rattle.std.specs.List.{range_with_len}
 use Rattle.std.specs.Ordering.{nat_cmp}
 use Rattle.std.specs.Cmp.Lexicographic.{slice_cmp}

@@ -1,17 +1,15 @@
 -- An INSERT of one row, as the plain machine has it.
 use Rattle.std.proofs.Common.{◌≡◌, ℕ, Bool, true, false, List, [], ◌∷◌, length, map, refl, ap, sym, ◌∙◌, nat_eq, eq-eqb}
-use Rattle.std.specs.Prelude.{Some, None, ◌==◌}
+use Rattle.std.specs.Prelude.{Some, ◌==◌}
 use Rattle.std.specs.List.{list_all}
 use Rattle.std.specs.Str.{bytes_eq}
 use Rattle.std.specs.FinMap as finite
 use Rattle.std.proofs.lemmas.List.{length-map}
 use Rattle.page_base.specs.declared.value.Value.{Value}
 use Rattle.plain_model.specs.declared.expr.Expr.{Expr}
-use Rattle.plain_model.specs.declared.stmt.Stmt.{Stmt}
 use Rattle.plain_model.specs.declared.stmt.Stmt.TheVariants.{Insert}
 use Rattle.plain_model.specs.declared.stmt.InsertStmt.{InsertStmt}
 use Rattle.plain_model.specs.Tables.{Table, Tables, key_of}
-use Rattle.plain_model.specs.Journal.{Entry, source}
 use Rattle.plain_model.specs.Meaning.{literal, new_rows}
 use Rattle.plain_model.specs.Next.{is_built}
 use Rattle.snapdb.specs.declared.answer.Decision.{Decision}
@@ -39,16 +37,16 @@ module _ (current : List ℕ) (tables : Tables) (i : InsertStmt) (t : Table) (ro
   with_key : (b : Bool) → finite.contains_key t.rows (key_of t.cols row) ≡ b → IsDecision current tables (Insert i) (by_key i.table (key_of t.cols row) row b)
   with_key true b = record {
     comes = λ script journal said moment same.
-      let wide = widths i.rows row (length t.cols) new long in
-      (rw (built, here) refl, rw (built, here, same, there, wide) refl, rw (built, here, same, there, wide, same_bytes i.table, new, b) refl);
+        let wide = widths i.rows row (length t.cols) new long in
+        (rw (built, here) refl, rw (built, here, same, there, wide) refl, rw (built, here, same, there, wide, same_bytes i.table, new, b) refl);
     changes = refl;
     moves = refl;
     key = tt;
   }
   with_key false b = record {
     comes = λ script journal said moment same.
-      let wide = widths i.rows row (length t.cols) new long in
-      (rw (built, here) refl, rw (built, here, same, there, wide) refl, rw (built, here, same, there, wide, same_bytes i.table, new, b) refl);
+        let wide = widths i.rows row (length t.cols) new long in
+        (rw (built, here) refl, rw (built, here, same, there, wide) refl, rw (built, here, same, there, wide, same_bytes i.table, new, b) refl);
     changes = rw (there, new, b, there) refl;
     moves = refl;
     key = rw there refl;

@@ -1,5 +1,5 @@
 -- Going over the columns for the one at a place of the key.
-use Rattle.std.proofs.Common.{◌≡◌, ◌≢◌, ◌<◌, ◌+◌, ℕ, List, [], ◌∷◌, length, get_or, drop, refl, ap, sym, ◌∙◌, cond, nat_eq, false}
+use Rattle.std.proofs.Common.{◌≡◌, ◌≢◌, ◌<◌, ◌+◌, ℕ, List, [], ◌∷◌, length, get_or, drop, refl, ap, sym, ◌∙◌, nat_eq, false}
 use Rattle.std.proofs.lemmas.Bool.{ne_eqb}
 use Rattle.std.proofs.lemmas.List.{drop_more, drop-drop}
 use Rattle.page_base.specs.declared.column.Column.{Column}

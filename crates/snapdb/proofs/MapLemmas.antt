@@ -1,5 +1,5 @@
 -- An ordered map of std, seen as a finite map.
-use Rattle.std.proofs.Common.{◌≡◌, ℕ, List, [], ◌∷◌, length, refl, ap, sym, ◌∙◌, map, cond}
+use Rattle.std.proofs.Common.{◌≡◌, List, [], ◌∷◌, refl, ap, sym, ◌∙◌, map, cond}
 use Rattle.std.specs.Prelude.{Some}
 use Rattle.std.specs.Map.{lookup}
 use Rattle.std.specs.FinMap as finite
@@ -51,7 +51,7 @@ module _ {K X : Type 0} {R : K → K → Ordering} (total : IsTotalOrder R) wher
       ((q : K) → lookup (λ x. is_eq (R q x)) fs ≡ cond (is_eq (R k q)) (Some v) (lookup (λ x. is_eq (R q x)) es)) → finite.from_entries {R = R} fs ≡ finite.insert (finite.from_entries es) k v
   from_entries-written exact es fs k v h =
       same_map total exact _ _ (λ q. get-lookup fs q ∙ h q ∙ ap (cond (is_eq (R k q)) (Some v)) (sym (get-lookup es q))
-          ∙ ap (λ b. cond b (Some v) (finite.get (finite.from_entries {R = R} es) q)) ((eq_by_cmp_equiv total).symm k q) ∙ sym (get-insert total (finite.from_entries es) k v q))
+      ∙ ap (λ b. cond b (Some v) (finite.get (finite.from_entries {R = R} es) q)) ((eq_by_cmp_equiv total).symm k q) ∙ sym (get-insert total (finite.from_entries es) k v q))
 
   -- what is there already changes nothing
   pub insert-same : IsAntisymmetric R → (m : finite.FinMap R X) (k : K) (v : X) → finite.get m k ≡ Some v → finite.insert m k v ≡ m

@@ -1,6 +1,6 @@
 -- Which bytes are no script.
-use Rattle.std.proofs.Common.{◌≡◌, ◌≤◌, ◌<◌, ◌⊎◌, inl, inr, ℕ, true, false, List, [], ◌∷◌, length, refl, ap, sym, ◌∙◌, arith, subst}
-use Rattle.std.specs.Prelude.{Some, None}
+use Rattle.std.proofs.Common.{◌≡◌, ◌<◌, inl, inr, ℕ, List, length, ap, sym, ◌∙◌, arith, subst}
+use Rattle.std.specs.Prelude.{Some}
 use Rattle.plain_model.specs.declared.stmt.Stmt.{Stmt}
 use Rattle.sql_read.specs.Grammar.{IsBatch}
 use Rattle.sql_read.proofs.LawLemmas.{one_reading}

@@ -1,5 +1,5 @@
 -- A call that made no history writes the line that is due.
-use Rattle.std.proofs.Common.{◌≡◌, ◌⊎◌, inl, inr, ℕ, List, [], Result, Err, refl, ap, sym, ◌∙◌, arith}
+use Rattle.std.proofs.Common.{◌≡◌, ◌⊎◌, inl, inr, ℕ, List, [], Result, Err, arith}
 use Rattle.std.specs.Prelude.{Option, IsErrOf}
 use Rattle.std.specs.Io.KnownBytes.{Appends, Keeps}
 use Rattle.page_dev.specs.Sink.{AppendsFront}

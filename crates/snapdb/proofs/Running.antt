@@ -1,22 +1,21 @@
 -- One statement more, and the leaving.
-use Rattle.std.proofs.Common.{◌≡◌, ◌+◌, ◌≤◌, ◌*◌, ◌<◌, ℕ, suc, zero, List, [], ◌∷◌, ◌++◌, length, map, refl, ap, sym, ◌∙◌, arith, length-append, subst}
+use Rattle.std.proofs.Common.{◌≡◌, ◌+◌, ℕ, suc, zero, List, [], ◌∷◌, ◌++◌, length, refl, ap, sym, ◌∙◌, arith, length-append, subst}
 use Rattle.std.specs.Prelude.{Some, None, slice_get}
-use Rattle.std.specs.List.{filter_map, range_with_len}
+use Rattle.std.specs.List.{filter_map}
 use Rattle.std.proofs.lemmas.List.Elements.{filter_map-append}
 use Rattle.std.proofs.lemmas.List.FromFn.{map-range_with_len_more}
 use Rattle.plain_model.specs.declared.stmt.Stmt.{Stmt}
 use Rattle.plain_model.specs.declared.event.Event.{Event}
 use Rattle.plain_model.specs.declared.event.Event.TheVariants.{Left}
-use Rattle.plain_model.specs.Tables.{Tables}
 use Rattle.plain_model.specs.State.{Plain, start}
 use Rattle.plain_model.specs.Legal.{Legal, end_from}
 use Rattle.plain_model.specs.Complete.{Mark, Answered, Gone, mark_of, Complete}
 use Rattle.snapdb.specs.declared.engine.Engine.{Engine}
 use Rattle.snapdb.specs.declared.answer.Decision.{Decision}
 use Rattle.snapdb.specs.Opening.{fresh}
-use Rattle.snapdb.specs.Answers.{state, reply_of, tables_after, current_after, events_of, IsDecision, with_effect, current_with}
+use Rattle.snapdb.specs.Answers.{state, reply_of, tables_after, events_of, IsDecision, with_effect, current_with}
 use Rattle.snapdb.specs.Running.{IsAt}
-use Rattle.snapdb.proofs.Stepping.{Steps, legal_append, end_append, answers, marks_of, events_few}
+use Rattle.snapdb.proofs.Stepping.{legal_append, end_append, answers, marks_of, events_few}
 
 -- a statement more
 pub is_at_more : (script : List Stmt) (engine engine' : Engine) (said : ℕ) (stmt : Stmt) (d : Decision) → slice_get script said ≡ Some stmt → IsAt script engine said →

@@ -1,9 +1,7 @@
 -- What a statement's events do to the plain machine with one session.
-use Rattle.std.proofs.Common.{◌≡◌, ◌+◌, ◌≤◌, ◌*◌, ◌<◌, ℕ, suc, zero, Bool, true, false, List, [], ◌∷◌, ◌++◌, length, map, refl, ap, sym, ◌∙◌, arith, length-append}
+use Rattle.std.proofs.Common.{◌≡◌, ◌+◌, ◌≤◌, ℕ, List, [], ◌∷◌, ◌++◌, length, refl, ap, sym, ◌∙◌, arith}
 use Rattle.std.specs.Prelude.{Option, Some, None, slice_get}
-use Rattle.std.specs.List.{filter_map, range_with_len}
-use Rattle.std.proofs.lemmas.List.Elements.{filter_map-append}
-use Rattle.std.proofs.lemmas.List.FromFn.{map-range_with_len_more}
+use Rattle.std.specs.List.{filter_map}
 use Rattle.page_base.specs.declared.numbers.Mode.{Mode}
 use Rattle.plain_model.specs.declared.stmt.Stmt.{Stmt}
 use Rattle.plain_model.specs.declared.stmt.Stmt.TheVariants.{UseDb, CreateTable, Insert}
@@ -13,16 +11,16 @@ use Rattle.plain_model.specs.declared.event.LockName.TheVariants.{All, Table}
 use Rattle.page_base.specs.declared.numbers.Mode.TheVariants.{S}
 use Rattle.plain_model.specs.declared.reply.Reply.{Reply}
 use Rattle.plain_model.specs.declared.reply.Reply.TheVariants.{Ok, Count, Rows, Msg}
-use Rattle.plain_model.specs.Tables.{Change, Tables, apply}
+use Rattle.plain_model.specs.Tables.{Change, apply}
 use Rattle.plain_model.specs.Journal.{Entry, Committed, source}
 use Rattle.plain_model.specs.State.{Plain, Session}
 use Rattle.plain_model.specs.Meaning.{change_and_reply}
 use Rattle.plain_model.specs.Legal.{LegalFrom, end_from, after, effect, answered, counted, with_changes}
-use Rattle.plain_model.specs.Complete.{Mark, Answered, mark_of}
+use Rattle.plain_model.specs.Complete.{Answered, mark_of}
 use Rattle.snapdb.specs.declared.answer.Answer.{Answer}
 use Rattle.snapdb.specs.declared.answer.Answer.TheVariants.{AtOnce, UnderAll, UnderTable}
 use Rattle.snapdb.specs.Opening.{fresh}
-use Rattle.snapdb.specs.Answers.{idle, state, state_with, lock, say, Comes, reply_of, tables_after, current_after, events_of}
+use Rattle.snapdb.specs.Answers.{idle, state, state_with, say, Comes, reply_of, tables_after, current_after, events_of}
 
 -- the events may come from the one state, and lead to the other
 pub record Steps (st : Plain) (es : List Event) (st' : Plain) : Type 0 where

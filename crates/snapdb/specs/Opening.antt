@@ -1,5 +1,5 @@
 -- What a run begins with: a new source without tables.
-use Rattle.std.specs.Prelude.{List, [], ◌∷◌, codes}
+use Rattle.std.specs.Prelude.{[], ◌∷◌, codes}
 use Rattle.std.specs.FinMap as finite
 use Rattle.plain_model.specs.Journal.{Opening}
 

@@ -186,7 +186,12 @@ fn enter_database(name: &Name) -> Decision
 }
 
 // INSERT of this row into a table of as many columns.
-fn insert_row(alloc: Global, name: Name, table: &StoredTable, row: Row) -> Result<Decision, NoMemory>
+fn insert_row(
+    alloc: Global,
+    name: Name,
+    table: &StoredTable,
+    row: Row,
+) -> Result<Decision, NoMemory>
     ensures { IfOk result (λ decision. PutsRow name table.now row decision) }
 {
     let key = key_of(alloc, table.cols(), &row)?;

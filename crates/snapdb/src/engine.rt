@@ -66,7 +66,6 @@ fn enter(book: &mut Book, number: u32, answer: Answer) -> Result<(), NoMemory>
     }
 }
 
-
 // Does what a statement does beside its reply.
 fn carry_out(
     alloc: Global,
@@ -102,12 +101,7 @@ impl Engine {
     }
 
     // Answers the statement behind so many that were answered.
-    fn statement(
-        &mut self,
-        alloc: Global,
-        script: &StmtList,
-        before: usize,
-    ) -> Result<(), NoMemory>
+    fn statement(&mut self, alloc: Global, script: &StmtList, before: usize) -> Result<(), NoMemory>
         requires there { before < length script.now }
         requires few { length script.now ≤ 20000 }
         requires at { IsAt script.now self.old before }

@@ -7,12 +7,7 @@ use page_base::{Column, NoMemory, Row, Value};
 use std::alloc::Global;
 
 // A copy of the value in the column that has this place in the key.
-fn key_cell(
-    alloc: Global,
-    cols: &[Column],
-    row: &[Value],
-    place: usize,
-) -> Result<Value, NoMemory>
+fn key_cell(alloc: Global, cols: &[Column], row: &[Value], place: usize) -> Result<Value, NoMemory>
     ensures { IfOk result (λ value. value ≡ key_cell cols.now row.now place) }
 {
     for (i, column) in cols.iter().enumerate() {

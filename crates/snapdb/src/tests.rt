@@ -8,6 +8,7 @@ use std::test::Fail;
 
 const FIRST: &[u8] =
     b":session 1\nUSE shop\nCREATE TABLE t (id INT PRIMARY KEY, v INT)\nINSERT t VALUES (1, 10)\n";
+
 const FIRST_BOOK: &[u8] =
     b"1 said 1 0 ok\n1 lock * X\n1 said 2 1 ok\n1 lock * S\n1 lock t X\n1 said 3 3 count 1\n1 left\n";
 
@@ -50,7 +51,11 @@ fn what_is_no_script_is_refused(rt: HostRuntime) -> Result<(), Fail> {
         (b"play", b":session 2\nUSE shop\n", unbuilt),
         (b"play", b":session 1 \nUSE shop\n", unbuilt),
         (b"play", b":session 1\nUSE shop\n:session 2\n", unbuilt),
-        (b"play", b":session 1\nUSE shop\n \tgO \nUSE shop\n", unbuilt),
+        (
+            b"play",
+            b":session 1\nUSE shop\n \tgO \nUSE shop\n",
+            unbuilt,
+        ),
         (b"play", b":session 1\r\nUSE shop\n", unbuilt),
         (b"play", b":session 1\nUSE \x80\n", unbuilt),
     ];

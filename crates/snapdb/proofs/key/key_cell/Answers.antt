@@ -1,4 +1,4 @@
-use Rattle.std.proofs.Common.{◌≢◌, ◌∙◌, sym}
+use Rattle.std.proofs.Common.{◌≢◌, ◌∙◌}
 use Rattle.snapdb.proofs.KeyLemmas.{key_cell-past}
 use Rattle.snapdb.proofs.key.key_cell.Goals as goal
 

@@ -1,4 +1,4 @@
-use Rattle.std.proofs.Common.{◌≡◌, ap, sym, ◌∙◌, Err}
+use Rattle.std.proofs.Common.{◌≡◌, sym, Err}
 use Rattle.std.proofs.lemmas.Result.{err_from_is_err_and}
 use Rattle.snapdb.specs.declared.script.ScriptRefusal.TheVariants.{Unbuilt}
 use Rattle.snapdb.proofs.Reading.{no_script}

@@ -1,4 +1,4 @@
-use Rattle.std.proofs.Common.{◌<◌, ap, ◌∙◌, length, arith, inr, refl, subst}
+use Rattle.std.proofs.Common.{arith, inr}
 use Rattle.std.proofs.lemmas.Result.{IfOk-weaker}
 use Rattle.snapdb.proofs.Reading.{too_many}
 use Rattle.snapdb.proofs.script.statements.Goals as goal

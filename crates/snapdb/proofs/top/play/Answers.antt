@@ -1,4 +1,4 @@
-use Rattle.std.proofs.Common.{◌≡◌, List, ap, sym, Err, refl}
+use Rattle.std.proofs.Common.{List, ap, Err}
 use Rattle.plain_model.specs.declared.stmt.Stmt.{Stmt}
 use Rattle.snapdb.specs.Script.{IsScript}
 use Rattle.snapdb.proofs.top.play.Goals as goal

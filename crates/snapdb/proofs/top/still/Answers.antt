@@ -1,4 +1,4 @@
-use Rattle.std.proofs.Common.{inl, inr, refl, sym}
+use Rattle.std.proofs.Common.{inl, inr, refl}
 use Rattle.snapdb.specs.Headline.{Usage, usage_line}
 use Rattle.snapdb.proofs.Refusals.{writes_line, writes_front}
 use Rattle.snapdb.proofs.top.still.Goals as goal

@@ -1,4 +1,3 @@
-use Rattle.std.proofs.Common.{◌≡◌, ◌∙◌, ap, sym, refl}
 use Rattle.std.proofs.lemmas.Result.{on_ok_weaker}
 use Rattle.snapdb.proofs.Running.{is_at_more}
 use Rattle.snapdb.proofs.engine.Engine.statement.Goals as goal
