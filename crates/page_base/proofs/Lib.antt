@@ -5,4 +5,5 @@ pub mod PagesLemmas
 pub mod SlotsLemmas
 pub mod FormatLemmas
 pub mod ManyLemmas
+pub mod TimesLoop
 pub mod Ordered

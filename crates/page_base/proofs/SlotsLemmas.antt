@@ -59,3 +59,10 @@ pub with_slot-swap : (s : Slots) (p q : PageId) (i j : ℕ) (x y : List ℕ) →
 with_slot-swap s p q i j x y differ = λ t r k.
     swap (is_page p r && i == k) (is_page q r && j == k) x y (s r k)
     (λ a b. let f = and_parts (is_page p r) (i == k) a in let g = and_parts (is_page q r) (j == k) b in differ (same_page p r f.0 ∙ sym (same_page q r g.0)) (eqb-true i k f.1 ∙ sym (eqb-true j k g.1))) t
+
+-- a slot that isn't the one that was set
+pub with_slot-other : (s : Slots) (p q : PageId) (i j : ℕ) (x : List ℕ) → Differ q j p i → with_slot s p i x q j ≡ s q j
+with_slot-other s p q i j x differ = elim (cases_page q p) [
+  | inl e ↦ with_slot-slot s p q i j x (λ same. differ e same)
+  | inr ne ↦ λ u. with_slot-page s p q i x ne u j
+]

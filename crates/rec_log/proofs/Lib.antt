@@ -1,0 +1,7 @@
+mod LowNames
+mod Looping
+mod Numbers
+mod FieldLemmas
+mod EntryLemmas
+pub mod LogLemmas
+pub mod UndoneLemmas
