@@ -1,6 +1,6 @@
 //! The standard streams as a source and a sink: each failure of theirs is counted, and what they hold isn't told.
 
-ghost use Rattle.std.specs.Prelude.{None};
+ghost use Rattle.std.specs.Prelude.{◌≡◌, None};
 
 use page_base::Failed;
 use page_dev::{Sink, SinkRefusal, Source};
@@ -15,7 +15,9 @@ pub struct InSource<R: Read> {
 
 impl<R: Read> InSource<R> {
     /// A source that has met no fault.
-    pub fn new(inner: R) -> Self {
+    pub fn new(inner: R) -> Self
+        ensures { result ≡ record { inner = inner; faults = 0 } }
+    {
         InSource { inner, faults: 0 }
     }
 }
@@ -49,7 +51,9 @@ pub struct OutSink<W: Write> {
 
 impl<W: Write> OutSink<W> {
     /// A sink that has met no fault.
-    pub fn new(inner: W) -> Self {
+    pub fn new(inner: W) -> Self
+        ensures { result ≡ record { inner = inner; faults = 0 } }
+    {
         OutSink { inner, faults: 0 }
     }
 }
