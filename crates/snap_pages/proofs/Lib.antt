@@ -1,0 +1,4 @@
+pub mod CatalogLemmas
+pub mod ViewLemmas
+pub mod MapLemmas
+pub mod ChangeLemmas

@@ -1,0 +1,5 @@
+pub mod Sparse
+pub mod Catalog
+pub mod Shown
+pub mod Views
+pub mod Slots
