@@ -10,9 +10,6 @@ use Rattle.page_base.specs.Pages.{Pages, HasPage, page_or, shape, filled}
 pub has_page : {X : Type 0} (pages : Pages X) (p : PageId) → p.page < get_or (shape pages) p.file 0 → HasPage pages p
 has_page pages p h = subst (λ n. p.page < n) (get_or-map length pages p.file []) h
 
-pub within_count : {X : Type 0} (pages : Pages X) (p : PageId) → HasPage pages p → p.page < get_or (shape pages) p.file 0
-within_count pages p h = subst (λ n. p.page < n) (sym (get_or-map length pages p.file [])) h
-
 -- a page that isn't there
 pub page_past : {X : Type 0} (pages : Pages X) (p : PageId) (d : X) → ¬ HasPage pages p → page_or pages p d ≡ d
 unfolding page_or

@@ -44,8 +44,8 @@ abbrev Keeps : Shown → SnapNo → Snap → Type 0
 Keeps v k x = (x.state ≢ Suspect) → IsTrue x.set.files.tells → IsKept v k × (seen (img v) x.set ≡ view v k)
 
 keeps_each : (v : Shown) (s : SnapNo) (x : Snap) → IsOpen v s → ((k : SnapNo) → snap_at v.cat k ≡ snap_at v.cat s → Keeps v k x) → KeepsViews v (with_catalog v (record v.cat { snaps = set v.cat.snaps s.0 x }))
-keeps_each v s x has at k kept =
-    each (Keeps v) v.cat s x has at (λ j sound tells. (record { sound = sound; tells = tells }, refl)) k kept.sound kept.tells
+keeps_each v s x has at =
+    record { each = λ k kept. each (Keeps v) v.cat s x has at (λ j sound tells. (record { sound = sound; tells = tells }, refl)) k kept.sound kept.tells }
 
 pub keeps_set : (v : Shown) (s : SnapNo) (new : Sparse) → IsOpen v s → new.files.tells ≡ (set_of v s).files.tells
     → (IsKept v s → (q : PageId) → seen (img v) new q ≡ seen (img v) (set_of v s) q) → KeepsViews v (with_catalog v (with_set v.cat s new))
@@ -55,23 +55,6 @@ keeps_set v s new has tells same =
       record { sound = subst (λ (x : Snap). x.state ≢ Suspect) (sym e) sound; tells = subst (λ (x : Snap). IsTrue x.set.files.tells) (sym e) told_old },
       (λ i q. same (record { sound = sound; tells = told_old }) q i) ∙ ap (λ (x : Snap). seen (img v) x.set) (sym e),
     ))
-
-pub keeps_state : (v : Shown) (s : SnapNo) (to : SnapState) → IsOpen v s → (to ≡ Suspect) ⊎ (state_of v s ≢ Suspect) → KeepsViews v (with_catalog v (with_state v.cat s to))
-keeps_state v s to has why =
-    keeps_each v s (record (snap_at v.cat s) { state = to }) has (λ k e sound told.
-    elim why [
-      | inl lost ↦ absurd (sound lost)
-      | inr before ↦ (
-        record { sound = subst (λ (x : Snap). x.state ≢ Suspect) (sym e) before; tells = subst (λ (x : Snap). IsTrue x.set.files.tells) (sym e) told },
-        ap (λ (x : Snap). seen (img v) x.set) (sym e),
-      )
-    ])
-
-pub same_views : (v : Shown) (s : SnapNo) (to : SnapState) → IsOpen v s → view (with_catalog v (with_state v.cat s to)) ≡ view v
-same_views v s to has = λ i k. each (λ k x. seen (img v) x.set ≡ view v k) v.cat s (record (snap_at v.cat s) { state = to }) has (λ k e. ap (λ (x : Snap). seen (img v) x.set) (sym e)) (λ k. refl) k i
-
-pub suspect_done : (v : Shown) (s : SnapNo) (to : SnapState) (p : PageId) → IsOpen v s → to ≡ Suspect → ¬ IsDue (with_catalog v (with_state v.cat s to)) p s
-suspect_done v s to p has lost due = due.sound (ap (λ (x : Snap). x.state) (here v.cat s (record (snap_at v.cat s) { state = to }) has s refl) ∙ lost)
 
 -- A COPY, A MARK, A READ
 
@@ -119,36 +102,6 @@ read_keeps v s p into new result has r =
 pub mark_keeps : (v : Shown) (s : SnapNo) (p : PageId) → IsOpen v s → is_copied (marked (set_of v s) p) p ≡ true → (IsKept v s → sparse_page (set_of v s) p ≡ img v p) → KeepsViews v (with_catalog v (with_set v.cat s (marked (set_of v s) p)))
 mark_keeps v s p has now copied = keeps_set v s (marked (set_of v s) p) has refl (λ kept. marked_alike (img v) (set_of v s) p now (copied kept))
 
--- WHAT IS DUE
-
-pub dues_copied : (v : Shown) (s : SnapNo) (p : PageId) (new : Sparse) → IsOpen v s → new.map ≡ (set_of v s).map → NoneNewDue v (with_catalog v (with_set v.cat s new)) p
-dues_copied v s p new has map_same k due =
-    each (λ k x. x.state ≢ Suspect → is_copied x.set p ≡ false → IsDue v p k) v.cat s (record (snap_at v.cat s) { set = new }) has
-    (λ k e sound lacks. record { sound = subst (λ (x : Snap). x.state ≢ Suspect) (sym e) sound; uncopied = ap (λ (x : Snap). is_copied x.set p) e ∙ ap (λ m. page_or m p false) (sym map_same) ∙ lacks })
-    (λ k sound lacks. record { sound = sound; uncopied = lacks }) k due.sound due.uncopied
-
-pub dues_marked : (v : Shown) (s : SnapNo) (p : PageId) → IsOpen v s → is_copied (marked (set_of v s) p) p ≡ true → NoneNewDue v (with_catalog v (with_set v.cat s (marked (set_of v s) p))) p
-dues_marked v s p has now k due =
-    each (λ k x. x.state ≢ Suspect → is_copied x.set p ≡ false → IsDue v p k) v.cat s (record (snap_at v.cat s) { set = marked (set_of v s) p }) has
-    (λ k e sound lacks. absurd (true_not_false (sym now ∙ lacks)))
-    (λ k sound lacks. record { sound = sound; uncopied = lacks }) k due.sound due.uncopied
-
-pub marked_done : (v : Shown) (s : SnapNo) (p : PageId) → IsOpen v s → is_copied (marked (set_of v s) p) p ≡ true → ¬ IsDue (with_catalog v (with_set v.cat s (marked (set_of v s) p))) p s
-marked_done v s p has now due =
-    true_not_false (sym now ∙ sym (ap (λ (x : Snap). is_copied x.set p) (here v.cat s (record (snap_at v.cat s) { set = marked (set_of v s) p }) has s refl)) ∙ due.uncopied)
-
--- nothing is due among the snapshots, so nothing is
-pub pushed : (v : Shown) (p : PageId) (n : ℕ) → count v ≤ n → ((k : SnapNo) → k.0 < n → ¬ IsDue v p k) → IsPushed v p
-pushed v p n all none s sound =
-    elim (cases_lt s.0 n) [
-      | inl lt ↦ copied_or (is_copied (set_of v s) p) (λ e. none s lt (record { sound = sound; uncopied = e }))
-      | inr past ↦ absurd (sound (ap (λ (x : Snap). x.state) (get_or_past v.cat.snaps s.0 no_snap (omega arith))))
-    ]
-  where
-    copied_or : (b : Bool) → (b ≡ false → ⊥) → b ≡ true
-    copied_or true h = refl
-    copied_or false h = absurd (h refl)
-
 -- ANOTHER IMAGE
 
 -- a page that every snapshot has
@@ -165,11 +118,14 @@ changed_alike images x p new marked q =
     alike (is_copied x q) refl
 
 pub keeps_image : (old new : Shown) (p : PageId) (image : List ℕ) → IsPushed old p → img new ≡ set_at (img old) p image → catalog new ≡ catalog old → KeepsViews old new
-keeps_image old new p image pushed images same s kept =
-    let sound : state_of old s ≢ Suspect = subst (λ (c : Catalog). (snap_at c s).state ≢ Suspect) same kept.sound in (
-      record { sound = sound; tells = subst (λ (c : Catalog). IsTrue (snap_at c s).set.files.tells) same kept.tells },
-      (λ i. seen (images i) (snap_at (same i) s).set) ∙ (λ i q. changed_alike (img old) (set_of old s) p image (pushed s sound) q i),
-    )
+keeps_image old new p image pushed images same =
+    record {
+      each = λ s kept.
+          let sound : state_of old s ≢ Suspect = subst (λ (c : Catalog). (snap_at c s).state ≢ Suspect) same kept.sound in (
+            record { sound = sound; tells = subst (λ (c : Catalog). IsTrue (snap_at c s).set.files.tells) same kept.tells },
+            (λ i. seen (images i) (snap_at (same i) s).set) ∙ (λ i q. changed_alike (img old) (set_of old s) p image (pushed s sound) q i),
+          );
+    }
 
 -- ONE SNAPSHOT MORE, AND ONE LESS
 
@@ -201,25 +157,6 @@ closes_up v gone has s kept =
     )
 
 -- THE FILES OF EACH SNAPSHOT ARE LIKE THE SOURCE'S
-
-pub whole_set : (v : Shown) (s : SnapNo) (new : Sparse) → IsWhole v → IsOpen v s → new.files.counts ≡ (set_of v s).files.counts → IsWhole (with_catalog v (with_set v.cat s new))
-whole_set v s new whole has same =
-    let x : Snap = record (snap_at v.cat s) { set = new } in
-    record { alike = λ k h. each (λ k y. k.0 < length v.cat.snaps → y.set.files.counts ≡ counts v) v.cat s x has (λ k e h. same ∙ whole.alike s has) (λ k h. whole.alike k h) k (subst (λ n. k.0 < n) (length-set v.cat.snaps s.0 x) h) }
-
-pub whole_state : (v : Shown) (s : SnapNo) (to : SnapState) → IsWhole v → IsOpen v s → IsWhole (with_catalog v (with_state v.cat s to))
-whole_state v s to whole has =
-    let x : Snap = record (snap_at v.cat s) { state = to } in
-    record { alike = λ k h. each (λ k y. k.0 < length v.cat.snaps → y.set.files.counts ≡ counts v) v.cat s x has (λ k e h. whole.alike s has) (λ k h. whole.alike k h) k (subst (λ n. k.0 < n) (length-set v.cat.snaps s.0 x) h) }
-
-pub whole_new : (v : Shown) (name : List ℕ) (files : List (List ℕ)) (new : Sparse) → IsWhole v → new.files.counts ≡ counts v → IsWhole (with_catalog v (with_new v.cat name files new))
-whole_new v name files new whole alike =
-    record {
-      alike = λ k h. elim (cases_new v.cat name files new k h) [
-        | inl old ↦ ap (λ (x : Snap). x.set.files.counts) (older v.cat name files new k old) ∙ whole.alike k old
-        | inr e ↦ ap (λ (x : Snap). x.set.files.counts) (newest v.cat name files new k e) ∙ alike
-      ];
-    }
 
 pub whole_without : (v : Shown) (gone : SnapNo) → IsWhole v → IsOpen v gone → IsWhole (with_catalog v (without v.cat gone))
 whole_without v gone whole has = record { alike = λ k h. ap (λ (x : Snap). x.set.files.counts) (snap_at-without v.cat gone has k) ∙ whole.alike (former gone k) (HasSnap-former v.cat gone has k h) }

@@ -22,8 +22,8 @@ pub record IsKept (v : Shown) (s : SnapNo) : Type 0 where
   pub tells : IsTrue (set_of v s).files.tells
 
 -- each view that is promised was promised before, and is the same
-abbrev pub KeepsViews : Shown → Shown → Type 0
-KeepsViews old new = (s : SnapNo) → IsKept new s → IsKept old s × (view new s ≡ view old s)
+pub record KeepsViews (old new : Shown) : Type 0 where
+  pub each : (s : SnapNo) → IsKept new s → IsKept old s × (view new s ≡ view old s)
 
 -- each view that is promised was promised before and is the same, or it is that of the new snapshot, which sees the source
 abbrev pub CutsView : Shown → Shown → Type 0
@@ -48,5 +48,5 @@ pub record IsFirstDue (v : Shown) (p : PageId) (s : SnapNo) : Type 0 where
   pub first : (k : SnapNo) → k.0 < s.0 → ¬ IsDue v p k
 
 -- nothing becomes due
-abbrev pub NoneNewDue : Shown → Shown → PageId → Type 0
-NoneNewDue old new p = (k : SnapNo) → IsDue new p k → IsDue old p k
+pub record NoneNewDue (old new : Shown) (p : PageId) : Type 0 where
+  pub each : (s : SnapNo) → IsDue new p s → IsDue old p s

@@ -8,6 +8,8 @@ mod snap_pages;
 mod snapshot;
 mod sparse_set;
 mod state;
+#[cfg(test)]
+mod tests;
 
 pub use snap_cat::{FileNames, SnapCat};
 pub use snap_pages::SnapPages;

@@ -111,6 +111,7 @@ impl<P: PageFile> SnapPages<P> {
     pub fn next_push(&self, p: PageId) -> Option<SnapNo>
         ensures due { MatchOption result (IsPushed self.now p) (IsFirstDue self.now p) }
         ensures there { MatchOption result ⊤ (IsOpen self.now) }
+        ensures few { count self.now ≤ 8 }
     {
         for s in 0..self.cat.count() {
             if self.is_due(SnapNo(s), p) {
@@ -205,7 +206,8 @@ impl<P: PageFile> SnapPages<P> {
         ensures only { self.new ≡ with_catalog self.old (with_state (catalog self.old) s to) }
         ensures same { view self.new ≡ view self.old }
         ensures views { (to ≡ Suspect) ⊎ (state_of self.old s ≢ Suspect) → KeepsViews self.old self.new }
-        ensures dues { (p : PageId) → to ≡ Suspect → ¬ IsDue self.new p s }
+        ensures dues { (p : PageId) → to ≡ Suspect → NoneNewDue self.old self.new p }
+        ensures done { (p : PageId) → to ≡ Suspect → ¬ IsDue self.new p s }
     {
         self.cat.set_state(s, to);
     }
