@@ -1,5 +1,5 @@
 -- What the program promises of its answer.
-use Rattle.std.specs.Prelude.{ℕ, ◌≡◌, ◌<◌, ◌⊎◌, List, [], ◌∷◌, length, codes, Option}
+use Rattle.std.specs.Prelude.{ℕ, ◌≡◌, ◌<◌, ◌≤◌, ◌⊎◌, List, [], ◌∷◌, length, codes, Option}
 use Rattle.std.specs.Io.KnownBytes.{Consumes, IsAtEnd}
 use Rattle.plain_model.specs.declared.stmt.Stmt.{Stmt}
 use Rattle.plain_model.specs.declared.event.Event.{Event}
@@ -32,9 +32,9 @@ Tells old new book = (bytes : List ℕ) × Reads old new bytes × IsHistory byte
 abbrev pub Exceeds : Option (List ℕ) → Option (List ℕ) → Type 0
 Exceeds old new = (bytes : List ℕ) × Consumes old new bytes × (16777216 < length bytes)
 
--- all bytes were read, and are no script
+-- all bytes were read, are at most 16,777,216, and are no script
 abbrev pub IsNoScript : Option (List ℕ) → Option (List ℕ) → Type 0
-IsNoScript old new = (bytes : List ℕ) × Reads old new bytes × ((scripts : List (List Stmt)) → IsScript bytes scripts → ⊥)
+IsNoScript old new = (bytes : List ℕ) × Reads old new bytes × (length bytes ≤ 16777216) × ((scripts : List (List Stmt)) → IsScript bytes scripts → ⊥)
 
 abbrev pub usage_line : List ℕ
 usage_line = codes "refused: usage\n"

@@ -1,12 +1,12 @@
-//! The standard streams as a source and a sink: each failure of theirs is counted, and what they hold isn't told.
+//! Readers and writers of std as a source and a sink: each failure of theirs is counted, and they tell what those tell.
 
-ghost use Rattle.std.specs.Prelude.{◌≡◌, None};
+ghost use Rattle.std.specs.Prelude.{◌≡◌};
 
 use page_base::Failed;
 use page_dev::{Sink, SinkRefusal, Source};
 use std::io::{Read, Write};
 
-/// A reader as a source. Its count rises at each error.
+/// A reader as a source, which tells what the reader tells. Its count rises at each error.
 #[derive(Drop)]
 pub struct InSource<R: Read> {
     inner: R,
@@ -42,7 +42,8 @@ impl<R: Read> Source for InSource<R> {
     }
 }
 
-/// A writer as a sink, which tells nothing. Its count rises at each error, and at a write that takes nothing.
+/// A writer as a sink, which tells what the writer tells. Its count rises at each error, and at a write that takes
+/// nothing.
 #[derive(Drop)]
 pub struct OutSink<W: Write> {
     inner: W,
@@ -59,7 +60,7 @@ impl<W: Write> OutSink<W> {
 }
 
 impl<W: Write> Sink for OutSink<W> {
-    ghost taken = { λ s. None };
+    ghost taken = { λ s. W.contents s.inner };
 
     ghost failures = { λ s. s.faults };
 

@@ -6,4 +6,4 @@ use Rattle.snapdb.proofs.top.play.Goals as goal
 pub returns-in-Err-Unbuilt-clause-unbuilt : goal.returns-in-Err-Unbuilt-clause-unbuilt
 returns-in-Err-Unbuilt-clause-unbuilt g c = λ e.
     let none : (scripts : List (List Stmt)) → IsScript c.in-Ok.bytes.items scripts → ⊥ = rw (← c.deref.ensures.value) (c.in-Err-Unbuilt.ensures.unbuilt (ap Err c.in-Err-Unbuilt.field-0-is)) in
-    (c.in-Ok.bytes.items, (c.in-Ok.ensures.bytes, c.in-Ok.ensures.end), none)
+    (c.in-Ok.bytes.items, (c.in-Ok.ensures.bytes, c.in-Ok.ensures.end), c.in-Ok.ensures.short, none)
