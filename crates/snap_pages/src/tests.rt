@@ -144,15 +144,147 @@ fn push_all<P: PageFile>(pages: &mut SnapPages<P>, p: PageId)
 
 // A write of one slot.
 #[tactic(auto, using(crate::proofs::CallerLemmas::keeps_on))]
-fn write<P: PageFile>(pages: &mut SnapPages<P>, p: PageId, slot: u16, after: &[u8]) -> Result<(), NoRoom>
+fn write<P: PageFile>(
+    pages: &mut SnapPages<P>,
+    p: PageId,
+    slot: u16,
+    after: &[u8],
+) -> Result<(), NoRoom>
     requires page { IsThere pages.old p }
     requires spelled { IsPage (img pages.old p) }
     requires few { length after.now ≤ 8094 }
     requires index { slot < 4048 }
     ensures slots { OnOk result (slots_of (img pages.new) ≡ with_slot (slots_of (img pages.old)) p slot after.now) }
     ensures same { OnErr result (img pages.new ≡ img pages.old) }
+    ensures counts { counts pages.new ≡ counts pages.old }
     ensures views { KeepsViews pages.old pages.new }
 {
     push_all(pages, p);
     pages.change(p, slot, after)
+}
+
+// A new snapshot without names of files.
+fn cut(pages: &mut SnapPages<Fake>, alloc: Global, name: &[u8], fails: bool) -> Result<(), NoMemory>
+    requires { counts pages.old ≡ 16 ∷ [] }
+    ensures { counts pages.new ≡ 16 ∷ [] }
+{
+    let set = sparse_set(alloc, fails)?;
+    let Ok(name) = Name::read(name) else {
+        return Ok(());
+    };
+    if pages.cat().count() >= 8 || pages.cat().next_cut() == u64::MAX {
+        return Ok(());
+    }
+    match pages.cat().find(&name) {
+        Some(_) => {}
+        None => {
+            let _place = pages.add(name, FileNames::new(alloc), set);
+        }
+    }
+    Ok(())
+}
+
+// A snapshot's name, cut, state and faults, and where it finds a page.
+fn summary(
+    pages: &SnapPages<Fake>,
+    s: u8,
+    page: u32,
+) -> Option<(Name, u64, SnapState, u64, Place)> {
+    if s >= pages.cat().count() {
+        return None;
+    }
+    let s = SnapNo(s);
+    let place = pages.look(s, PageId { file: 0, page });
+    let cat = pages.cat();
+    Some((
+        *cat.name(s),
+        cat.cut(s),
+        cat.state(s),
+        pages.set(s).faults(),
+        place,
+    ))
+}
+
+// A write to a page of the first file.
+fn tried(pages: &mut SnapPages<Fake>, page: u32, after: &[u8]) -> Option<Result<(), NoRoom>>
+    requires { counts pages.old ≡ 16 ∷ [] }
+    ensures { counts pages.new ≡ 16 ∷ [] }
+{
+    let p = PageId { file: 0, page };
+    if page >= 16 || after.len() > 8094 || page_fmt::check(pages.image(p)).is_err() {
+        return None;
+    }
+    Some(write(pages, p, 0, after))
+}
+
+// The sparse page, if there is one.
+fn fetched(
+    pages: &mut SnapPages<Fake>,
+    s: u8,
+    page: u32,
+    into: &mut Image,
+) -> Option<Result<(), Failed>>
+    requires { counts pages.old ≡ 16 ∷ [] }
+    ensures { counts pages.new ≡ 16 ∷ [] }
+{
+    let p = PageId { file: 0, page };
+    if page >= 16 || s >= pages.cat().count() || pages.look(SnapNo(s), p) == Place::Through {
+        return None;
+    }
+    Some(pages.fetch_sparse(SnapNo(s), p, into))
+}
+
+fn named(name: &[u8]) -> Result<Name, Fail> {
+    Ok(Name::read(name)?)
+}
+
+#[test]
+fn a_failed_copy_costs_the_snapshot_and_not_the_write(rt: HostRuntime) -> Result<(), Fail> {
+    let mut pages = SnapPages::new(rt.alloc(), &[16], 5)?;
+    let mut image = Image::blank(rt.alloc())?;
+    assert_eq!(rt; tried(&mut pages, 3, b"old"), Some(Ok(())));
+    cut(&mut pages, rt.alloc(), b"s1", false)?;
+    cut(&mut pages, rt.alloc(), b"s2", true)?;
+    cut(&mut pages, rt.alloc(), b"s2", false)?;
+    assert_eq!(rt; pages.cat().count(), 2);
+    assert_eq!(rt; pages.cat().next_cut(), 7);
+    assert_eq!(rt; tried(&mut pages, 3, b"new"), Some(Ok(())));
+    assert_eq!(rt; tried(&mut pages, 3, b"last"), Some(Ok(())));
+    let s1 = named(b"s1")?;
+    let s2 = named(b"S2")?;
+    let wanted = [
+        (0, 3, Some((s1, 5, SnapState::Making, 0, Place::Sparse))),
+        (0, 4, Some((s1, 5, SnapState::Making, 0, Place::Through))),
+        (1, 3, Some((s2, 6, SnapState::Suspect, 1, Place::Through))),
+        (2, 3, None),
+    ];
+    for (s, page, answer) in wanted {
+        assert!(rt;
+            summary(&pages, s, page) == answer,
+            "snapshot {s}, page {page}"
+        );
+    }
+    assert_eq!(rt; fetched(&mut pages, 0, 3, &mut image), Some(Ok(())));
+    assert_eq!(rt; image.bytes()[96], b'o');
+    assert_eq!(rt; fetched(&mut pages, 1, 3, &mut image), None);
+    Ok(())
+}
+
+#[test]
+fn later_snapshots_close_up(rt: HostRuntime) -> Result<(), Fail> {
+    let mut pages = SnapPages::new(rt.alloc(), &[16], 0)?;
+    cut(&mut pages, rt.alloc(), b"s1", false)?;
+    cut(&mut pages, rt.alloc(), b"s2", false)?;
+    assert!(rt; pages.cat().count() == 2);
+    let gone = pages.remove(SnapNo(0));
+    assert_eq!(rt; gone.into_files().len(), 1);
+    cut(&mut pages, rt.alloc(), b"s1", false)?;
+    for (s, name, number) in [(0, b"s2", 1), (1, b"s1", 2)] {
+        let name = named(name)?;
+        assert_eq!(rt; pages.cat().find(&name), Some(SnapNo(s)));
+        assert!(rt;
+            summary(&pages, s, 0) == Some((name, number, SnapState::Making, 0, Place::Through))
+        );
+    }
+    Ok(())
 }
