@@ -1,1 +1,5 @@
 mod CountDown
+pub mod NameMapLemmas
+pub mod FolderLemmas
+pub mod StoreLemmas
+pub mod OutLemmas

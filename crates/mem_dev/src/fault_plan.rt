@@ -1,9 +1,9 @@
 //! Which calls of an object fail: each planned failure counts its calls down by itself.
 
-ghost use Rattle.std.specs.Prelude.{◌≡◌, ◌-◌, ◌≤◌, IfOk, map};
+ghost use Rattle.std.specs.Prelude.{◌≡◌, ◌-◌, ◌≤◌, ◌++◌, ◌∷◌, [], IfOk, OnOk, OnErr, map};
 ghost use Rattle.std.specs.Bool.{OnTrue};
 ghost use Rattle.page_dev.specs.Faults.{Rose};
-ghost use Rattle.mem_dev.specs.Plan.{planned, fails_next, after_call};
+ghost use Rattle.mem_dev.specs.Plan.{planned, fails_next, one_call_less, after_call, after_fault};
 
 use page_base::NoMemory;
 use std::alloc::Global;
@@ -26,7 +26,7 @@ impl Model for FaultPlan {
 
 // One call less until each planned failure.
 fn count_down(calls: &mut [u64])
-    ensures { calls.new ≡ map (λ call. call - 1) calls.old }
+    ensures { calls.new ≡ one_call_less calls.old }
 {
     for call in calls.iter_mut() {
         *call = call.saturating_sub(1);
@@ -42,6 +42,30 @@ impl FaultPlan {
         Ok(FaultPlan { due, failures: 0 })
     }
 
+    /// A plan by which these calls fail.
+    pub(crate) fn of(due: Vec<u64>) -> FaultPlan
+        ensures { result ≡ planned due.items }
+    {
+        FaultPlan { due, failures: 0 }
+    }
+
+    /// Adds a failing call. After want of memory the plan is as before.
+    pub(crate) fn add(&mut self, call: u64) -> Result<(), NoMemory>
+        ensures ok { OnOk result (self.new ≡ record self.old { due = self.old.due ++ call ∷ [] }) }
+        ensures err { OnErr result (self.new ≡ self.old) }
+    {
+        self.due.push(call)?;
+        Ok(())
+    }
+
+    /// The calls to come that fail.
+    pub(crate) fn into_due(self) -> Vec<u64>
+        ensures { result.items ≡ self.due }
+    {
+        let FaultPlan { due, failures: _ } = self;
+        due
+    }
+
     /// How many calls have failed.
     pub(crate) fn failures(&self) -> u64
         ensures { result ≡ self.now.failures }
@@ -51,7 +75,7 @@ impl FaultPlan {
 
     /// Counts a call, and answers whether it fails.
     pub(crate) fn meets_fault(&mut self) -> bool
-        ensures fails { result ≡ fails_next self.old }
+        ensures fails { result ≡ fails_next self.old.due }
         ensures after { self.new ≡ after_call self.old }
         ensures later { self.old.failures ≤ self.new.failures }
         ensures rose { OnTrue result (Rose self.old.failures self.new.failures) }
@@ -62,5 +86,13 @@ impl FaultPlan {
             self.failures = self.failures.saturating_add(1);
         }
         fails
+    }
+
+    /// Counts a fault that was not planned.
+    pub(crate) fn count_fault(&mut self)
+        ensures after { self.new ≡ after_fault self.old }
+        ensures rose { Rose self.old.failures self.new.failures }
+    {
+        self.failures = self.failures.saturating_add(1);
     }
 }

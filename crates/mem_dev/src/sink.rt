@@ -78,7 +78,7 @@ impl Sink for MemSink {
 
         // all of the piece or nothing, and a failure exactly where this call was to fail
         ensures all { TakesAll self.old.taken self.new.taken result from.now }
-        ensures fails { (result ≡ Err Failed) ↔ IsTrue (fails_next self.old.plan) }
+        ensures fails { (result ≡ Err Failed) ↔ IsTrue (fails_next self.old.plan.due) }
         ensures plan { self.new.plan ≡ after_call self.old.plan }
     {
         if self.plan.meets_fault() {

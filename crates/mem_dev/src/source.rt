@@ -94,7 +94,7 @@ impl Source for MemSource {
 
         // as many bytes as there is room for, and none exactly where this call was to fail
         ensures count { IfOk result (λ n. n ≡ min (length self.old.left) (length into.new)) }
-        ensures fails { is_err result ≡ fails_next self.old.plan }
+        ensures fails { is_err result ≡ fails_next self.old.plan.due }
         ensures plan { self.new.plan ≡ after_call self.old.plan }
     {
         if self.plan.meets_fault() {

@@ -1,6 +1,7 @@
 mod Lowered
 pub mod FileNameLemmas
 mod LastPart
+pub mod MapLemmas
 pub mod PagesLemmas
 pub mod SlotsLemmas
 pub mod FormatLemmas

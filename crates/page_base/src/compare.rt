@@ -8,7 +8,7 @@ ghost use Rattle.std.specs.Cmp.Lexicographic.{slice_cmp, slice_partial_cmp, poin
 ghost use Rattle.std.specs.Ordering.{nat_cmp, as_partial_cmp, eq_by_cmp};
 ghost use Rattle.page_base.specs.Order.{value_cmp};
 
-use crate::{ListOf, Name, Value};
+use crate::{FileName, ListOf, Name, Value};
 use std::cmp::Ordering;
 
 impl PartialEq for Name {
@@ -45,6 +45,44 @@ impl PartialOrd for Name {
     ghost laws = { partial_order_from_own_ties (Prim.search (comparing, rules)) (Prim.search (comparing, rules)) };
 
     fn partial_cmp(&self, other: &Name) -> Option<Ordering> {
+        Some(self.cmp(other))
+    }
+}
+
+impl PartialEq for FileName {
+    ghost eq = { pointwise ◌==◌ };
+
+    ghost laws = { Prim.search (comparing, rules) };
+
+    fn eq(&self, other: &FileName) -> bool {
+        self.bytes() == other.bytes()
+    }
+}
+
+impl Eq for FileName {
+    ghost laws = { Prim.search (comparing, rules) };
+}
+
+impl Ord for FileName {
+    ghost cmp = { slice_cmp nat_cmp };
+
+    ghost total = { Prim.search (comparing, rules) };
+
+    ghost matches_partial_cmp = { Prim.search (comparing, rules) };
+
+    ghost matches_eq = { Prim.search (comparing, rules) };
+
+    fn cmp(&self, other: &FileName) -> Ordering {
+        self.bytes().cmp(other.bytes())
+    }
+}
+
+impl PartialOrd for FileName {
+    ghost partial_cmp = { as_partial_cmp (slice_cmp nat_cmp) };
+
+    ghost laws = { partial_order_from_own_ties (Prim.search (comparing, rules)) (Prim.search (comparing, rules)) };
+
+    fn partial_cmp(&self, other: &FileName) -> Option<Ordering> {
         Some(self.cmp(other))
     }
 }

@@ -10,7 +10,7 @@ use crate::NameRefusal;
 use std::marker::Model;
 
 /// The name of a file: 1 to 128 letters, digits, `_`, `-` and `.`, the first no `.`.
-#[derive(Clone, Copy, Debug, PartialEq, Eq)]
+#[derive(Clone, Copy, Debug)]
 pub struct FileName {
     // the bytes past the length are 0
     bytes: [u8; 128],

@@ -52,6 +52,14 @@ impl Image {
         &mut *self.bytes
     }
 
+    /// Makes all bytes zero.
+    #[tactic(auto, unfolding(crate::specs::Pages::blank))]
+    pub fn clear(&mut self)
+        ensures { self.new ≡ blank }
+    {
+        *self.bytes = [0u8; PAGE];
+    }
+
     /// Takes over the bytes of another page.
     pub fn set(&mut self, from: &Image)
         ensures { self.new ≡ from.now }

@@ -9,7 +9,7 @@ ghost use Rattle.page_dev.specs.PageFile.{new_pages};
 ghost use Rattle.page_dev.specs.Volume.{Names, Folder, is_out, out_after, Creates, TakesPages, TakesLog, Puts, Removes, IsOfCreate, IsOfTakePages, IsOfTakeLog};
 
 use crate::{LogFile, PageFile};
-use page_base::{Failed, FileName};
+use page_base::{Failed, FileName, NoMemory};
 use thiserror::Error;
 
 /// Why a file wasn't given.
@@ -30,6 +30,17 @@ pub enum VolRefusal {
     /// When no memory was found.
     #[error("no memory was found")]
     Memory,
+}
+
+impl From<NoMemory> for VolRefusal {
+    ghost use Rattle.std.specs.Prelude.{◌≡◌};
+    ghost use Rattle.page_dev.specs.declared.volume.VolRefusal.TheVariants.{Memory};
+
+    ghost from_gives = { λ _ refusal. refusal ≡ Memory };
+
+    fn from(_: NoMemory) -> Self {
+        VolRefusal::Memory
+    }
 }
 
 /// A map from file name to file. A file that was created or taken is out until it is put back, and keeps its name's

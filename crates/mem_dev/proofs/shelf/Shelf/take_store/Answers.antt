@@ -1,0 +1,38 @@
+use Rattle.std.proofs.Common.{◌≡◌, ap, sym, ◌∙◌}
+use Rattle.std.specs.Prelude.{Some}
+use Rattle.std.specs.FinMap as map
+use Rattle.page_dev.specs.Volume.{Folder}
+use Rattle.mem_dev.specs.Store.{content_of, are_images}
+use Rattle.mem_dev.specs.Out.{out_of}
+use Rattle.mem_dev.proofs.FolderLemmas.{there-inserted, restored, not_out, refused_pages}
+use Rattle.mem_dev.proofs.OutLemmas.{marked_out}
+use Rattle.mem_dev.proofs.shelf.Shelf.take_store.Goals as goal
+
+-- the file that lay at the name
+there : (c : goal.After-replace-file) → map.get c.args.self.now c.args.name.now ≡ Some c.replace-file.result
+there c = ap (λ (m : Folder). map.get m c.args.name.now) (sym c.self.view_is) ∙ c.replace-file.ensures.old
+
+-- the folder after the file was put back
+same : (c : goal.Joined-replace) → c.replace.new.self ≡ c.args.self.now
+same c =
+    c.replace.ensures.new ∙ (λ i. map.insert (c.replace-file.ensures.new i) c.args.name.now (c.in-Err.ensures.err i))
+    ∙ restored c.self.inside.files c.args.name.now c.gone.result c.replace-file.result c.replace-file.ensures.old ∙ c.self.view_is
+
+pub into_store-requires : goal.into_store-requires
+into_store-requires c = not_out c.args.self.now c.args.name.now c.replace-file.result (there c) c.requires
+
+pub replace-requires : goal.replace-requires
+replace-requires c = rw c.replace-file.ensures.new (there-inserted c.self.inside.files c.args.name.now c.gone.result)
+
+pub returns-in-Ok-clause-out : goal.returns-in-Ok-clause-out
+returns-in-Ok-clause-out c =
+    ap out_of (c.replace-file.ensures.new ∙ (λ i. map.insert (c.self.view_is i) c.args.name.now (c.gone.ensures i))) ∙ marked_out c.args.self.now c.args.name.now
+
+pub returns-in-Err-clause-taken : goal.returns-in-Err-clause-taken
+returns-in-Err-clause-taken c =
+    let lay : map.get c.args.self.now c.args.name.now ≡ Some c.replace-file.result = ap (λ (m : Folder). map.get m c.args.name.now) (sym c.self.view_is) ∙ c.replace-file.ensures.old in
+    refused_pages are_images content_of c.args.name.now c.args.pages c.args.self.now c.replace.new.self c.replace-file.result c.in-Err.refused.why lay
+      (not_out c.args.self.now c.args.name.now c.replace-file.result lay c.requires) c.in-Err.ensures.why (same c)
+
+pub returns-in-Err-clause-out : goal.returns-in-Err-clause-out
+returns-in-Err-clause-out c = ap out_of (same c)
