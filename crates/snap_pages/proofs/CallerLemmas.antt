@@ -1,10 +1,10 @@
 -- What callers join: the effects of calls one after the other, and that pushes go upward.
-use Rattle.std.proofs.Common.{◌≡◌, ◌<◌, inl, inr, ◌∙◌, arith, subst, refl}
+use Rattle.std.proofs.Common.{◌<◌, inl, inr, ◌∙◌, arith, subst, refl}
 use Rattle.std.proofs.lemmas.Bool.{cases_eq, cases_lt}
 use Rattle.page_base.specs.declared.numbers.PageId.{PageId}
 use Rattle.page_base.specs.declared.numbers.SnapNo.{SnapNo}
 use Rattle.snap_pages.specs.Shown.{Shown}
-use Rattle.snap_pages.specs.Views.{IsKept, KeepsViews, IsDue, IsFirstDue, NoneNewDue}
+use Rattle.snap_pages.specs.Views.{KeepsViews, IsDue, IsFirstDue, NoneNewDue}
 
 -- views that two calls keep, one after the other
 pub keeps_on : (a b c : Shown) → KeepsViews a b → KeepsViews b c → KeepsViews a c

@@ -1,7 +1,7 @@
 -- The source's pages after one image changed.
 use Rattle.std.proofs.Common.{◌≡◌, ℕ, inl, inr, Bool, true, false, cond, ◌==◌, ◌&&◌, List, refl, ap, sym, ◌∙◌}
 use Rattle.page_base.specs.declared.numbers.PageId.{PageId}
-use Rattle.page_base.specs.Pages.{image_at, with_page, blank, is_page, set_at}
+use Rattle.page_base.specs.Pages.{with_page, blank, is_page, set_at}
 use Rattle.page_base.specs.Slots.{with_slot}
 use Rattle.page_base.proofs.PagesLemmas.{page_or-with_page_same, with_page-same, shape-with_page, cases_page, image_at-with_page, is_page-same, is_page-other}
 use Rattle.page_fmt.specs.Content.{content}

@@ -1,18 +1,17 @@
 -- What keeps the views of snapshots.
-use Rattle.std.proofs.Common.{get_or-set_same, get_or-set_other, ◌≡◌, ◌≢◌, ℕ, ◌<◌, ◌≤◌, ◌∷◌, ◌++◌, [], inl, inr, ◌⊎◌, Bool, true, false, cond, IsTrue, List, length, get_or, refl, ap, sym, ◌∙◌, subst, arith, Result}
-use Rattle.std.proofs.Math.ListN.{set, length-set}
+use Rattle.std.proofs.Common.{get_or-set_same, get_or-set_other, ◌≡◌, ◌≢◌, ℕ, ◌<◌, inl, inr, Bool, true, false, cond, IsTrue, List, length, get_or, refl, ap, sym, ◌∙◌, subst, Result}
+use Rattle.std.proofs.Math.ListN.{set}
 use Rattle.std.proofs.lemmas.Bool.{cases_eq, cases_lt}
 use Rattle.std.proofs.lemmas.List.{get_or_past}
 use Rattle.page_base.specs.declared.numbers.PageId.{PageId}
 use Rattle.page_base.specs.declared.numbers.SnapNo.{SnapNo}
-use Rattle.page_base.specs.Pages.{Pages, HasPage, image_at, page_or, with_page, blank, shape, is_page, set_at}
-use Rattle.page_base.proofs.PagesLemmas.{page_or-with_page_other, shape-with_page, cases_page, image_at-with_page, is_page-other}
-use Rattle.snap_pages.specs.declared.state.SnapState.{SnapState}
+use Rattle.page_base.specs.Pages.{image_at, page_or, with_page, blank, set_at}
+use Rattle.page_base.proofs.PagesLemmas.{page_or-with_page_other, cases_page, is_page-other}
 use Rattle.snap_pages.specs.declared.state.SnapState.TheVariants.{Suspect}
 use Rattle.snap_pages.specs.Sparse.{Sparse, HasSparse, is_copied, sparse_page, marked, IsEmptyMap, Copies, Reads}
-use Rattle.snap_pages.specs.Catalog.{Snap, Catalog, no_snap, snap_at, HasSnap, with_new, without, former, with_state, with_set}
-use Rattle.snap_pages.specs.Shown.{Shown, img, counts, IsThere, catalog, count, IsOpen, set_of, state_of, cut_of, with_catalog, IsWhole}
-use Rattle.snap_pages.specs.Views.{seen, view, IsKept, KeepsViews, CutsView, ClosesUp, IsDue, IsPushed, NoneNewDue}
+use Rattle.snap_pages.specs.Catalog.{Snap, Catalog, no_snap, snap_at, HasSnap, with_new, without, former, with_set}
+use Rattle.snap_pages.specs.Shown.{Shown, img, counts, IsThere, catalog, IsOpen, set_of, state_of, with_catalog, IsWhole}
+use Rattle.snap_pages.specs.Views.{seen, view, IsKept, KeepsViews, CutsView, ClosesUp, IsPushed}
 use Rattle.snap_pages.proofs.CatalogLemmas.{older, newest, cases_new, snap_at-without, HasSnap-former}
 
 true_not_false : true ≡ false → ⊥

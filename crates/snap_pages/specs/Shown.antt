@@ -2,7 +2,7 @@
 use Rattle.std.specs.Prelude.{◌≡◌, ℕ, ◌<◌, List, length, slice_index}
 use Rattle.page_base.specs.declared.numbers.PageId.{PageId}
 use Rattle.page_base.specs.declared.numbers.SnapNo.{SnapNo}
-use Rattle.page_base.specs.Pages.{Pages, image_at, shape, with_page}
+use Rattle.page_base.specs.Pages.{Pages, image_at, shape}
 use Rattle.snap_pages.specs.Sparse.{Sparse}
 use Rattle.snap_pages.specs.Catalog.{Catalog, snap_at, HasSnap}
 use Rattle.snap_pages.specs.declared.state.SnapState.{SnapState}

@@ -2,7 +2,6 @@
 use Rattle.std.specs.Prelude.{◌≡◌, ◌≢◌, ℕ, ◌<◌, ◌⊎◌, true, false, if◌then◌else◌, IsTrue, List}
 use Rattle.page_base.specs.declared.numbers.PageId.{PageId}
 use Rattle.page_base.specs.declared.numbers.SnapNo.{SnapNo}
-use Rattle.page_base.specs.Pages.{Pages, image_at}
 use Rattle.snap_pages.specs.Sparse.{Sparse, is_copied, sparse_page}
 use Rattle.snap_pages.specs.Catalog.{former}
 use Rattle.snap_pages.specs.Shown.{Shown, img, set_of, state_of, cut_of, count}

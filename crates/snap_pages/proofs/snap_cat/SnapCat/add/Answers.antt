@@ -1,6 +1,5 @@
-use Rattle.std.proofs.Common.{◌≡◌, ◌≤◌, ◌<◌, ◌+◌, length, sym, subst, arith}
-use Rattle.std.specs.Prelude.{vec_capacity}
-use Rattle.snap_pages.specs.Catalog.{Catalog, IsCatalog, LacksName, with_new}
+use Rattle.std.proofs.Common.{◌≡◌, ◌<◌, ◌+◌, length, sym, subst, arith}
+use Rattle.snap_pages.specs.Catalog.{Catalog, IsCatalog, LacksName}
 use Rattle.snap_pages.proofs.CatalogLemmas.{catalog_new}
 use Rattle.snap_pages.proofs.snap_cat.SnapCat.add.Goals as goal
 

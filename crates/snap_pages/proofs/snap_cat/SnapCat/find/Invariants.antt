@@ -1,6 +1,6 @@
 use Rattle.std.proofs.Common.{◌≢◌, ◌<◌}
 use Rattle.page_base.specs.declared.numbers.SnapNo.{SnapNo}
-use Rattle.snap_pages.specs.Catalog.{Snap, snap_at}
+use Rattle.snap_pages.specs.Catalog.{snap_at}
 use Rattle.snap_pages.proofs.snap_cat.SnapCat.find.Given as goal
 
 abbrev pub invariant-loop-s : goal.invariant-loop-s

@@ -1,4 +1,4 @@
-use Rattle.std.proofs.Common.{◌≡◌, ◌≤◌, sym, subst, arith}
+use Rattle.std.proofs.Common.{◌≡◌, sym, subst, arith}
 use Rattle.snap_pages.specs.Catalog.{Catalog, IsCatalog, HasSnap}
 use Rattle.snap_pages.proofs.CatalogLemmas.{catalog_without}
 use Rattle.snap_pages.proofs.snap_cat.SnapCat.remove.Goals as goal

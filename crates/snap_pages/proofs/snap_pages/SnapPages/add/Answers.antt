@@ -1,5 +1,5 @@
-use Rattle.std.proofs.Common.{◌≡◌, ◌∙◌, ap, sym, subst}
-use Rattle.snap_pages.specs.Catalog.{Catalog, with_new}
+use Rattle.std.proofs.Common.{◌≡◌, sym, subst}
+use Rattle.snap_pages.specs.Catalog.{Catalog}
 use Rattle.snap_pages.specs.Shown.{Shown, with_catalog}
 use Rattle.snap_pages.specs.Views.{CutsView}
 use Rattle.snap_pages.proofs.ViewLemmas.{cut_views}

@@ -1,7 +1,7 @@
 use Rattle.std.proofs.Common.{◌≡◌, ◌∙◌, ap, sym, subst, IsTrue}
 use Rattle.std.proofs.lemmas.Result.{on_ok_weaker}
 use Rattle.snap_pages.specs.Sparse.{sparse_page}
-use Rattle.snap_pages.specs.Catalog.{Catalog, snap_at, with_set}
+use Rattle.snap_pages.specs.Catalog.{Catalog, snap_at}
 use Rattle.snap_pages.specs.Shown.{Shown, IsOpen, img, set_of, with_catalog}
 use Rattle.snap_pages.specs.Views.{KeepsViews}
 use Rattle.snap_pages.proofs.ViewLemmas.{read_keeps, seen_copied}

@@ -1,4 +1,4 @@
-use Rattle.std.proofs.Common.{◌≡◌, ap, ◌∙◌}
+use Rattle.std.proofs.Common.{ap, ◌∙◌}
 use Rattle.page_base.specs.Pages.{shape, image_at, blank}
 use Rattle.snap_pages.proofs.MapLemmas.{page_or-filled, shape-filled}
 use Rattle.snap_pages.proofs.snap_pages.SnapPages.new.Goals as goal

@@ -1,4 +1,4 @@
-use Rattle.std.proofs.Common.{◌≡◌, ◌∙◌, ap, sym, subst, false}
+use Rattle.std.proofs.Common.{◌≡◌, sym, subst, false}
 use Rattle.snap_pages.specs.Sparse.{is_copied}
 use Rattle.snap_pages.specs.Catalog.{Catalog, snap_at}
 use Rattle.snap_pages.specs.Shown.{Shown, IsOpen, set_of, with_catalog}

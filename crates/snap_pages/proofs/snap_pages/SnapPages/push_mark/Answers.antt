@@ -1,6 +1,6 @@
-use Rattle.std.proofs.Common.{◌≡◌, ◌∙◌, ap, sym, subst, true}
+use Rattle.std.proofs.Common.{◌≡◌, sym, subst, true}
 use Rattle.snap_pages.specs.Sparse.{is_copied, sparse_page, marked}
-use Rattle.snap_pages.specs.Catalog.{Catalog, snap_at}
+use Rattle.snap_pages.specs.Catalog.{Catalog}
 use Rattle.snap_pages.specs.Shown.{Shown, IsOpen, set_of, img, with_catalog}
 use Rattle.snap_pages.specs.Views.{KeepsViews, IsKept}
 use Rattle.snap_pages.proofs.ViewLemmas.{mark_keeps}

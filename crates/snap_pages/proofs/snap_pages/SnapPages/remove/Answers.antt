@@ -1,5 +1,5 @@
-use Rattle.std.proofs.Common.{◌≡◌, ◌∙◌, ap, sym, subst}
-use Rattle.snap_pages.specs.Catalog.{Catalog, without}
+use Rattle.std.proofs.Common.{◌≡◌, sym, subst}
+use Rattle.snap_pages.specs.Catalog.{Catalog}
 use Rattle.snap_pages.specs.Shown.{Shown, IsOpen, IsWhole, with_catalog}
 use Rattle.snap_pages.specs.Views.{ClosesUp}
 use Rattle.snap_pages.proofs.ViewLemmas.{closes_up, whole_without}

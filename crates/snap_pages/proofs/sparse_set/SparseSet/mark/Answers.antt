@@ -1,5 +1,5 @@
 use Rattle.std.proofs.Common.{true, false, ap, sym, ◌∙◌, ◌<◌, get_or, subst}
-use Rattle.page_base.specs.Pages.{shape, page_or}
+use Rattle.page_base.specs.Pages.{shape}
 use Rattle.page_base.proofs.PagesLemmas.{shape-with_page, page_or-with_page_same}
 use Rattle.snap_pages.specs.Sparse.{Sparse, HasSparse, is_copied, marked}
 use Rattle.snap_pages.proofs.MapLemmas.{has_page}

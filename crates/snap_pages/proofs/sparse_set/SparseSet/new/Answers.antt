@@ -1,4 +1,4 @@
-use Rattle.std.proofs.Common.{◌≡◌, false, ap, sym, ◌∙◌}
+use Rattle.std.proofs.Common.{false, ap, sym, ◌∙◌}
 use Rattle.page_base.specs.Pages.{shape, page_or}
 use Rattle.snap_pages.proofs.MapLemmas.{page_or-filled, shape-filled}
 use Rattle.snap_pages.proofs.sparse_set.SparseSet.new.Goals as goal
