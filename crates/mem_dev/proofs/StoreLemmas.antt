@@ -31,7 +31,7 @@ sized-new n = list_all-from_AllPass (λ page. length page == 8192) (new_pages n)
 pub sized-set : (pages : FilePages) (n : ℕ) (bytes : List ℕ) → length bytes ≡ 8192 → IsTrue (are_sized pages) → IsTrue (are_sized (set pages n bytes))
 sized-set pages n bytes long h =
     list_all-from_AllPass (λ page. length page == 8192) (set pages n bytes)
-      (All-set (λ page. IsTrue (length page == 8192)) pages n bytes (eq-eqb (length bytes) 8192 long) (AllPass-from_list_all (λ page. length page == 8192) pages h))
+    (All-set (λ page. IsTrue (length page == 8192)) pages n bytes (eq-eqb (length bytes) 8192 long) (AllPass-from_list_all (λ page. length page == 8192) pages h))
 
 pub images-none : (n : ℕ) → IsTrue (are_images (replicate n None))
 images-none n = ap are_sized (content-none n) ∙ sized-new n

@@ -73,7 +73,13 @@ fn is_over(limit: Option<u32>, store: &PageStore, n: u32) -> bool
 }
 
 // Writes a page where the file may have it.
-fn put_page(store: &mut PageStore, limit: Option<u32>, alloc: Global, n: u32, from: &Image) -> Result<(), Failed>
+fn put_page(
+    store: &mut PageStore,
+    limit: Option<u32>,
+    alloc: Global,
+    n: u32,
+    from: &Image,
+) -> Result<(), Failed>
     requires { n < length store.old }
     ensures ok { OnOk result (store.new ≡ slice_set store.old n (Some from.now)) }
     ensures err { OnErr result (store.new ≡ store.old) }

@@ -24,7 +24,6 @@ pub(crate) struct Shelf {
 
 impl Model for Shelf {
     ghost use Rattle.page_dev.specs.Volume.{Folder};
-
     ghost use Rattle.std.specs.FinMap as map;
     ghost use Rattle.std.specs.Coded.{codes};
 
@@ -73,7 +72,12 @@ impl Shelf {
 
     /// Takes a file as so many pages.
     #[tactic(auto, using(crate::proofs::OutLemmas::pages_taken_out))]
-    pub(crate) fn take_store(&mut self, alloc: Global, name: &FileName, pages: u32) -> Result<PageStore, VolRefusal>
+    pub(crate) fn take_store(
+        &mut self,
+        alloc: Global,
+        name: &FileName,
+        pages: u32,
+    ) -> Result<PageStore, VolRefusal>
         requires { set.contains (out_of self.old) name.now ≡ false }
         ensures taken { TakesPages are_images content_of name.now pages self.old self.new result }
         ensures out { out_of self.new ≡ out_after (out_of self.old) name.now result }
@@ -95,7 +99,11 @@ impl Shelf {
 
     /// Takes a file as bytes.
     #[tactic(auto, using(crate::proofs::OutLemmas::log_taken_out))]
-    pub(crate) fn take_bytes(&mut self, alloc: Global, name: &FileName) -> Result<Vec<u8>, VolRefusal>
+    pub(crate) fn take_bytes(
+        &mut self,
+        alloc: Global,
+        name: &FileName,
+    ) -> Result<Vec<u8>, VolRefusal>
         requires { set.contains (out_of self.old) name.now ≡ false }
         ensures taken { TakesLog (λ _. true) (λ bytes. bytes.items) name.now self.old self.new result }
         ensures out { out_of self.new ≡ out_after (out_of self.old) name.now result }
@@ -136,7 +144,12 @@ impl Shelf {
     }
 
     /// Cuts a file to so many bytes, or adds zeros to it. After want of memory it is as before.
-    pub(crate) fn set_length(&mut self, alloc: Global, name: &FileName, bytes: u64) -> Result<(), NoMemory>
+    pub(crate) fn set_length(
+        &mut self,
+        alloc: Global,
+        name: &FileName,
+        bytes: u64,
+    ) -> Result<(), NoMemory>
         requires { lies (map.get self.old name.now) ≡ true }
         ensures ok { OnOk result (self.new ≡ map.insert self.old name.now (Lies (resized bytes (kept_at self.old name.now)))) }
         ensures err { OnErr result (self.new ≡ self.old) }

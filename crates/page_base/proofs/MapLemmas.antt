@@ -51,7 +51,7 @@ module _ {K X : Type 0} {R : K → K → Ordering} (total : IsTotalOrder R) wher
       ((q : K) → lookup (λ x. is_eq (R q x)) fs ≡ cond (is_eq (R k q)) (Some v) (lookup (λ x. is_eq (R q x)) es)) → finite.from_entries {R = R} fs ≡ finite.insert (finite.from_entries es) k v
   from_entries-written exact es fs k v h =
       same_map total exact _ _ (λ q. get-lookup fs q ∙ h q ∙ ap (cond (is_eq (R k q)) (Some v)) (sym (get-lookup es q))
-          ∙ ap (λ b. cond b (Some v) (finite.get (finite.from_entries {R = R} es) q)) ((eq_by_cmp_equiv total).symm k q) ∙ sym (get-insert total (finite.from_entries es) k v q))
+      ∙ ap (λ b. cond b (Some v) (finite.get (finite.from_entries {R = R} es) q)) ((eq_by_cmp_equiv total).symm k q) ∙ sym (get-insert total (finite.from_entries es) k v q))
 
   -- what is there already changes nothing
   pub insert-same : IsAntisymmetric R → (m : finite.FinMap R X) (k : K) (v : X) → finite.get m k ≡ Some v → finite.insert m k v ≡ m
@@ -67,4 +67,4 @@ module _ {K X : Type 0} {R : K → K → Ordering} (total : IsTotalOrder R) wher
       ((q : K) → lookup (λ x. is_eq (R q x)) fs ≡ cond (is_eq (R k q)) None (lookup (λ x. is_eq (R q x)) es)) → finite.from_entries {R = R} fs ≡ finite.remove (finite.from_entries es) k
   from_entries-removed exact es fs k h =
       same_map total exact _ _ (λ q. get-lookup fs q ∙ h q ∙ ap (cond (is_eq (R k q)) None) (sym (get-lookup es q))
-          ∙ ap (λ b. cond b None (finite.get (finite.from_entries {R = R} es) q)) ((eq_by_cmp_equiv total).symm k q) ∙ sym (get-remove total (finite.from_entries es) k q))
+      ∙ ap (λ b. cond b None (finite.get (finite.from_entries {R = R} es) q)) ((eq_by_cmp_equiv total).symm k q) ∙ sym (get-remove total (finite.from_entries es) k q))

@@ -10,7 +10,7 @@ use Rattle.mem_dev.proofs.shelf.Shelf.take_bytes.Goals as goal
 pub into_bytes-requires : goal.into_bytes-requires
 into_bytes-requires c =
     not_out c.args.self.now c.args.name.now c.replace-file.result
-      (ap (λ (m : Folder). map.get m c.args.name.now) (sym c.self.view_is) ∙ c.replace-file.ensures.old) c.requires
+    (ap (λ (m : Folder). map.get m c.args.name.now) (sym c.self.view_is) ∙ c.replace-file.ensures.old) c.requires
 
 pub replace-requires : goal.replace-requires
 replace-requires c = rw c.replace-file.ensures.new (there-inserted c.self.inside.files c.args.name.now c.gone.result)

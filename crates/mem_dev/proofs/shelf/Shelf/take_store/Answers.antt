@@ -32,7 +32,7 @@ pub returns-in-Err-clause-taken : goal.returns-in-Err-clause-taken
 returns-in-Err-clause-taken c =
     let lay : map.get c.args.self.now c.args.name.now ≡ Some c.replace-file.result = ap (λ (m : Folder). map.get m c.args.name.now) (sym c.self.view_is) ∙ c.replace-file.ensures.old in
     refused_pages are_images content_of c.args.name.now c.args.pages c.args.self.now c.replace.new.self c.replace-file.result c.in-Err.refused.why lay
-      (not_out c.args.self.now c.args.name.now c.replace-file.result lay c.requires) c.in-Err.ensures.why (same c)
+    (not_out c.args.self.now c.args.name.now c.replace-file.result lay c.requires) c.in-Err.ensures.why (same c)
 
 pub returns-in-Err-clause-out : goal.returns-in-Err-clause-out
 returns-in-Err-clause-out c = ap out_of (same c)
