@@ -1,5 +1,5 @@
 -- What keeps the views of snapshots.
-use Rattle.std.proofs.Common.{get_or-set_same, get_or-set_other, ◌≡◌, ◌≢◌, ℕ, ◌<◌, inl, inr, Bool, true, false, cond, IsTrue, List, length, get_or, refl, ap, sym, ◌∙◌, subst, Result}
+use Rattle.std.proofs.Common.{get_or-set_same, get_or-set_other, ◌≡◌, ◌≢◌, ℕ, inl, inr, Bool, true, false, cond, IsTrue, List, length, get_or, refl, ap, sym, ◌∙◌, subst, Result}
 use Rattle.std.proofs.Math.ListN.{set}
 use Rattle.std.proofs.lemmas.Bool.{cases_eq, cases_lt}
 use Rattle.std.proofs.lemmas.List.{get_or_past}
