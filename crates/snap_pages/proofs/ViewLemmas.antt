@@ -1,5 +1,5 @@
 -- What keeps the views of snapshots.
-use Rattle.std.proofs.Common.{get_or-set_same, get_or-set_other, ◌≡◌, ◌≢◌, ℕ, ◌<◌, inl, inr, Bool, true, false, cond, IsTrue, List, length, get_or, refl, ap, sym, ◌∙◌, subst, Result}
+use Rattle.std.proofs.Common.{get_or-set_same, get_or-set_other, ◌≡◌, ◌≢◌, ℕ, inl, inr, Bool, true, false, cond, IsTrue, List, length, get_or, refl, ap, sym, ◌∙◌, subst, Result}
 use Rattle.std.proofs.Math.ListN.{set}
 use Rattle.std.proofs.lemmas.Bool.{cases_eq, cases_lt}
 use Rattle.std.proofs.lemmas.List.{get_or_past}
@@ -8,18 +8,14 @@ use Rattle.page_base.specs.declared.numbers.SnapNo.{SnapNo}
 use Rattle.page_base.specs.Pages.{image_at, page_or, with_page, blank, set_at}
 use Rattle.page_base.proofs.PagesLemmas.{page_or-with_page_other, cases_page, is_page-other}
 use Rattle.snap_pages.specs.declared.state.SnapState.TheVariants.{Suspect}
-use Rattle.snap_pages.specs.Sparse.{Sparse, HasSparse, is_copied, sparse_page, marked, IsEmptyMap, Copies, Reads}
+use Rattle.snap_pages.specs.Sparse.{Sparse, is_copied, sparse_page, marked, IsEmptyMap, Copies, Reads}
 use Rattle.snap_pages.specs.Catalog.{Snap, Catalog, no_snap, snap_at, HasSnap, with_new, without, former, with_set}
-use Rattle.snap_pages.specs.Shown.{Shown, img, counts, IsThere, catalog, IsOpen, set_of, state_of, with_catalog, IsWhole}
+use Rattle.snap_pages.specs.Shown.{Shown, img, counts, catalog, IsOpen, set_of, state_of, with_catalog, IsWhole}
 use Rattle.snap_pages.specs.Views.{seen, view, IsKept, KeepsViews, CutsView, ClosesUp, IsPushed}
 use Rattle.snap_pages.proofs.CatalogLemmas.{older, newest, cases_new, snap_at-without, HasSnap-former}
 
 true_not_false : true ≡ false → ⊥
 true_not_false e = cc
-
--- the source's page is a page of each snapshot's files
-pub sparse_there : (v : Shown) (s : SnapNo) (p : PageId) → IsWhole v → IsOpen v s → IsThere v p → HasSparse (set_of v s) p
-sparse_there v s p whole has there = subst (λ ns. p.page < get_or ns p.file 0) (sym (whole.alike s has)) there
 
 -- ONE SNAPSHOT WITH ANOTHER SET, OR IN ANOTHER STATE
 
