@@ -1,28 +1,18 @@
 -- A place of the array, and the session that it belongs to.
-use Rattle.std.proofs.Common.{◌≡◌, ℕ, ◌+◌, ◌<◌, ◌≤◌, List, ◌∷◌, Bool, true, false, ◌&&◌, length, get_or, refl, ap, sym, subst, ◌∙◌, arith, add-one, eqb-true, ◌==◌, inl, inr, zero, suc, set, ◌-◌}
-use Rattle.std.proofs.lemmas.Bool.{cases_lt}
+use Rattle.std.proofs.Common.{◌≡◌, ℕ, ◌+◌, ◌<◌, ◌≤◌, List, ◌∷◌, Bool, true, false, ◌&&◌, length, get_or, refl, ap, sym, subst, ◌∙◌, arith, add-one, inl, inr, zero, suc, set, ◌-◌}
+use Rattle.std.proofs.lemmas.Bool.{cases_lt, and_parts}
 use Rattle.std.proofs.lemmas.List.{get_or_past}
 use Rattle.std.specs.Prelude.{Option, None, Some}
 use Rattle.page_base.specs.declared.numbers.PageId.{PageId}
 use Rattle.page_base.specs.declared.numbers.SessNo.{SessNo}
 use Rattle.page_base.specs.Pages.{is_page}
-use Rattle.page_base.proofs.PagesLemmas.{is_page-same}
+use Rattle.page_base.proofs.PagesLemmas.{is_page-same, is_page-true}
 use Rattle.latch_book.specs.declared.latch.Latch.{Latch}
 use Rattle.latch_book.specs.declared.latch.LatchMode.{LatchMode}
 use Rattle.latch_book.specs.Latches.{IsSession, IsLatchBook, IsFree, IsInTheWay, latch_of}
 use Rattle.latch_book.proofs.LatchLemmas.{none_or_some, IsLatchBook-with_latch, IsLatchBook-without_latch}
 use Rattle.latch_book.specs.Modes.{conflicts}
 use Rattle.latch_book.specs.Inside.{blocks}
-
-both : (a b : Bool) → (a && b) ≡ true → (a ≡ true) × (b ≡ true)
-both true b h = (refl, h)
-both false b h = absurd (let e : false ≡ true = h in cc)
-
-page_of : (p q : PageId) → is_page p q ≡ true → p ≡ q
-page_of p q h = let parts = both (p.file == q.file) (p.page == q.page) h in
-    let file : p.file ≡ q.file = eqb-true p.file q.file parts.0 in
-    let page : p.page ≡ q.page = eqb-true p.page q.page parts.1 in
-    λ i. record { file = file i; page = page i }
 
 -- the latch of the session whose place this is
 at_place : (places : List (Option Latch)) (k : SessNo) (i : ℕ) → k.0 ≡ i + 1 → latch_of (None ∷ places) k ≡ get_or places i None
@@ -42,12 +32,12 @@ in_the_way places who k p mode i stops e none = by_latch (get_or places i None) 
     by_latch : (o : Option Latch) → get_or places i None ≡ o → blocks o p mode ≡ true → IsInTheWay (None ∷ places) who p mode k
     by_latch None is h = absurd (let z : false ≡ true = h in cc)
     by_latch (Some l) is h =
-        let parts = both (is_page l.page p) (conflicts l.mode mode) h in
+        let parts = and_parts (is_page l.page p) (conflicts l.mode mode) h in
         let here : latch_of (None ∷ places) k ≡ Some l = at_place places k i e ∙ is in
         record {
           other = λ same. let z : None ≡ Some l = sym none ∙ sym (ap (latch_of (None ∷ places)) same) ∙ here in cc;
           held = l.mode;
-          holds = here ∙ ap (λ (r : PageId). Some (record { page = r; mode = l.mode })) (page_of l.page p parts.0);
+          holds = here ∙ ap (λ (r : PageId). Some (record { page = r; mode = l.mode })) (is_page-true l.page p parts.0);
           conflict = parts.1;
         }
 

@@ -1,6 +1,6 @@
 -- A page that was set, and the others.
-use Rattle.std.proofs.Common.{refl, ◌≡◌, ◌≢◌, ℕ, ◌+◌, ◌<◌, ◌≤◌, ◌++◌, ◌∷◌, take, replicate, ◌⊎◌, inl, inr, List, [], length, map, get_or, ap, sym, ◌∙◌, subst, arith, get_or-set_other, get_or-set_same, Bool, true, false, cond, ◌==◌, ◌&&◌, eq-eqb}
-use Rattle.std.proofs.lemmas.Bool.{cases_lt, cases_eq, ne_eqb}
+use Rattle.std.proofs.Common.{refl, ◌≡◌, ◌≢◌, ℕ, ◌+◌, ◌<◌, ◌≤◌, ◌++◌, ◌∷◌, take, replicate, ◌⊎◌, inl, inr, List, [], length, map, get_or, ap, sym, ◌∙◌, subst, arith, get_or-set_other, get_or-set_same, Bool, true, false, cond, ◌==◌, ◌&&◌, eq-eqb, eqb-true}
+use Rattle.std.proofs.lemmas.Bool.{cases_lt, cases_eq, ne_eqb, and_parts}
 use Rattle.std.proofs.Math.ListN.{set, length-set, length-map, get_or-map as get_or-map_any}
 use Rattle.std.proofs.Math.Seq.{map-set_same}
 use Rattle.std.proofs.lemmas.List.{get_or_past, get_or-map, map-set, map-append, take_more, get_or_default, set-get_or}
@@ -122,6 +122,14 @@ with_page-same pages p x d e =
     ap (λ y. set pages p.file (set (get_or pages p.file []) p.page y)) (sym e)
     ∙ ap (set pages p.file) (set-get_or (get_or pages p.file []) p.page d)
     ∙ set-get_or pages p.file []
+
+-- the test of a page says which page it is
+pub is_page-true : (p q : PageId) → is_page p q ≡ true → p ≡ q
+is_page-true p q h =
+    let parts = and_parts (p.file == q.file) (p.page == q.page) h in
+    let file = eqb-true p.file q.file parts.0 in
+    let page = eqb-true p.page q.page parts.1 in
+    λ i. record { file = file i; page = page i }
 
 pub is_page-same : (p : PageId) → is_page p p ≡ true
 is_page-same p = ap (λ b. b && p.page == p.page) (eq-eqb p.file p.file refl) ∙ eq-eqb p.page p.page refl

@@ -4,7 +4,7 @@ use Rattle.std.proofs.lemmas.Bool.{cases_eq, ne_eqb, and_parts}
 use Rattle.page_base.specs.declared.numbers.PageId.{PageId}
 use Rattle.page_base.specs.Pages.{is_page}
 use Rattle.page_base.specs.Slots.{Slots, with_slot}
-use Rattle.page_base.proofs.PagesLemmas.{cases_page, is_page-same, is_page-other}
+use Rattle.page_base.proofs.PagesLemmas.{cases_page, is_page-same, is_page-other, is_page-true}
 
 shadow : {X : Type 0} (b : Bool) (x y z : X) → cond b x (cond b y z) ≡ cond b x z
 shadow true x y z = refl
@@ -49,16 +49,11 @@ with_slot-itself s p i = λ t q j. (elim (cases_page q p) as (λ c. with_slot s 
 abbrev pub Differ : PageId → ℕ → PageId → ℕ → Type 0
 Differ p i q j = p ≡ q → i ≡ j → ⊥
 
-same_page : (p q : PageId) → is_page p q ≡ true → p ≡ q
-same_page p q e =
-    let h = and_parts (p.file == q.file) (p.page == q.page) e in
-    λ t. record { file = eqb-true p.file q.file h.0 t; page = eqb-true p.page q.page h.1 t }
-
 -- two slots set in either order
 pub with_slot-swap : (s : Slots) (p q : PageId) (i j : ℕ) (x y : List ℕ) → Differ p i q j → with_slot (with_slot s q j y) p i x ≡ with_slot (with_slot s p i x) q j y
 with_slot-swap s p q i j x y differ = λ t r k.
     swap (is_page p r && i == k) (is_page q r && j == k) x y (s r k)
-    (λ a b. let f = and_parts (is_page p r) (i == k) a in let g = and_parts (is_page q r) (j == k) b in differ (same_page p r f.0 ∙ sym (same_page q r g.0)) (eqb-true i k f.1 ∙ sym (eqb-true j k g.1))) t
+    (λ a b. let f = and_parts (is_page p r) (i == k) a in let g = and_parts (is_page q r) (j == k) b in differ (is_page-true p r f.0 ∙ sym (is_page-true q r g.0)) (eqb-true i k f.1 ∙ sym (eqb-true j k g.1))) t
 
 -- a slot that isn't the one that was set
 pub with_slot-other : (s : Slots) (p q : PageId) (i j : ℕ) (x : List ℕ) → Differ q j p i → with_slot s p i x q j ≡ s q j

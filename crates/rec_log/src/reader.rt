@@ -12,16 +12,18 @@ use page_base::{Bytes, Name, NoMemory, PageId};
 use std::alloc::{AllocError, Global};
 use std::marker::Model;
 
-/// The greatest number of slots that a page can have, each of them empty.
+/// So many offsets of two bytes fill a page behind its header.
 const SLOTS: u16 = 4_048;
 
-/// The most bytes that one slot can hold, alone on its page.
+/// The bytes that are left to a single slot behind the header and its offset.
 const LONGEST: usize = 8_094;
 
 // Why a field isn't read.
 #[derive(Clone, Copy, Debug, PartialEq, Eq)]
 pub(crate) enum Stop {
+    // When the field breaks a rule of the format or is cut short; the reader stands at its first byte.
     Form,
+    // When no memory was found.
     Memory,
 }
 

@@ -1,3 +1,4 @@
+-- Place by place, the first session in the way is the lowest.
 use Rattle.std.proofs.Common.{◌+◌, length, refl, inl, inr, sym, ◌∙◌, arith}
 use Rattle.std.proofs.lemmas.Bool.{cases_lt}
 use Rattle.latch_book.proofs.InTheWay.{in_the_way, one_more, none_first, none_past}

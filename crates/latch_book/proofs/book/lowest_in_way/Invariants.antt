@@ -1,3 +1,4 @@
+-- No session up to this place is in the way.
 use Rattle.std.proofs.Common.{◌≤◌, ◌∷◌, None}
 use Rattle.page_base.specs.declared.numbers.SessNo.{SessNo}
 use Rattle.latch_book.specs.Latches.{IsInTheWay}

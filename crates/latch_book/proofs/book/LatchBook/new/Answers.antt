@@ -1,3 +1,4 @@
+-- In the empty book nobody holds a page.
 use Rattle.std.proofs.Common.{refl}
 use Rattle.latch_book.specs.Latches.{no_latches}
 use Rattle.latch_book.proofs.LatchLemmas.{IsLatchBook-no_latches, latch_of-no_latches}

@@ -1,3 +1,4 @@
+-- The book without a latch is a book still.
 use Rattle.latch_book.proofs.InTheWay.{book_released}
 use Rattle.latch_book.proofs.book.LatchBook.release.Goals as goal
 

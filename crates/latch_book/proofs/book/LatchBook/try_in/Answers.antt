@@ -1,3 +1,4 @@
+-- The book with one more latch that nobody was in the way of is a book still.
 use Rattle.std.proofs.Common.{subst}
 use Rattle.latch_book.specs.Latches.{Latches, IsFree}
 use Rattle.latch_book.proofs.InTheWay.{book_taken}
