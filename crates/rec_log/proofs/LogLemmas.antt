@@ -10,7 +10,7 @@ use Rattle.page_base.specs.Reading.{Read, left}
 use Rattle.page_base.proofs.FormatLemmas.{IsBytes, IsBytes-rest, shrinks}
 use Rattle.page_base.proofs.ManyLemmas.{one_list, fault_of_stop}
 use Rattle.rec_log.specs.Records.{Record}
-use Rattle.rec_log.specs.Entries.{IsLogged, record_fields, Entry, IsEntry, AreEntries, IsLog, entry_fields, log_fields, log_bytes}
+use Rattle.rec_log.specs.Entries.{IsLogged, record_fields, Entry, IsEntry, AreEntries, IsLog, entry_fields, log_fields, entry_bytes, log_bytes}
 use Rattle.rec_log.specs.Reading.{entry_at}
 use Rattle.rec_log.proofs.EntryLemmas.{IsFormat-entry, entry_some_bytes}
 
@@ -62,6 +62,17 @@ pub read_all : (bytes : List ℕ) (entries : List Entry) (rest : List ℕ) → I
 unfolding log_bytes
 read_all bytes entries rest so_far none =
     record { each = so_far.each; spelled = so_far.spelled ∙ ap (λ (bs : List ℕ). concat (log_fields entries) ++ bs) none ∙ append-nil (concat (log_fields entries)) }
+
+-- one more entry at the end of a log
+pub log_bytes-push : (entries : List Entry) (entry : Entry) → log_bytes (entries ++ entry ∷ []) ≡ log_bytes entries ++ entry_bytes entry
+unfolding log_bytes entry_bytes
+log_bytes-push entries entry =
+    ap concat (flat_map-append entry_fields entries (entry ∷ [])) ∙ concat-append (log_fields entries) (entry_fields entry ++ [])
+    ∙ ap (λ (fs : List (List ℕ)). concat (log_fields entries) ++ concat fs) (append-nil (entry_fields entry))
+
+pub IsLog-push : (bytes : List ℕ) (entries : List Entry) (entry : Entry) → IsLog bytes entries → IsEntry entry → IsLog (bytes ++ entry_bytes entry) (entries ++ entry ∷ [])
+IsLog-push bytes entries entry log fits =
+    record { each = more_entries entries entry log.each fits; spelled = ap (λ (bs : List ℕ). bs ++ entry_bytes entry) log.spelled ∙ sym (log_bytes-push entries entry) }
 
 -- bytes are one log at most
 pub one_log : (bytes : List ℕ) (a b : List Entry) → IsLog bytes a → IsLog bytes b → a ≡ b

@@ -35,6 +35,7 @@ abbrev pub entry_fields : Entry → List (List ℕ)
 entry_fields (Commit records) = (1 ∷ []) ∷ number 8 (length records) ∷ flat_map record_fields records
 entry_fields (Revert name) = (2 ∷ []) ∷ (length name ∷ name) ∷ []
 
+-- the fields of all entries, in order
 abbrev pub log_fields : List Entry → List (List ℕ)
 log_fields = flat_map entry_fields
 
@@ -50,10 +51,12 @@ pub record IsLogged (r : Record) : Type 0 where
   pub limits : IsRecord r
   pub number : r.page.page < 2 ^ 32
 
+-- an entry as the log holds it: the number of records has eight bytes, and a name is one in lower case
 abbrev pub IsEntry : Entry → Type 0
 IsEntry (Commit records) = (length records < 2 ^ 64) × AllByRecursion IsLogged records
 IsEntry (Revert name) = IsLowName name
 
+-- each is such an entry
 abbrev pub AreEntries : List Entry → Type 0
 AreEntries = AllByRecursion IsEntry
 

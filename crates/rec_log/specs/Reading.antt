@@ -18,6 +18,7 @@ abbrev pub Fails : {Y : Type 0} → Stop → List ℕ → Read Y → Type 0
 Fails stop.Form rest read = read ≡ Err rest
 Fails stop.Memory rest read = Unit {0}
 
+-- the same of an answer: the value that was read, or the field at which reading stopped
 abbrev pub Gives : {X Y : Type 0} → (X → Y) → Result X Stop → List ℕ → Read Y → Type 0
 Gives view (Ok x) rest read = read ≡ Ok (view x, rest)
 Gives view (Err e) rest read = Fails e rest read
@@ -27,12 +28,15 @@ unfoldable pub kind_at : List ℕ → Read Kind
 kind_at [] = Err []
 kind_at (kind ∷ rest) = if kind == 1 then Ok (kinds.Commit, rest) else (if kind == 2 then Ok (kinds.Revert, rest) else Err (kind ∷ rest))
 
+-- how many records a commit has
 unfoldable pub count_at : List ℕ → Read ℕ
 count_at bytes = if nat_lt (length bytes) 8 then Err bytes else Ok (number_in 8 bytes, drop 8 bytes)
 
+-- which page a record is of
 unfoldable pub address_at : List ℕ → Read PageId
 address_at bytes = if nat_lt (length bytes) 5 then Err bytes else Ok (record { file = slice_index bytes 0; page = number_in 4 (drop 1 bytes) }, drop 5 bytes)
 
+-- which slot it is of, below 4,048
 unfoldable pub slot_at : List ℕ → Read ℕ
 slot_at bytes = if nat_lt (length bytes) 2 || nat_le 4048 (number_in 2 bytes) then Err bytes else Ok (number_in 2 bytes, drop 2 bytes)
 
@@ -40,9 +44,11 @@ slot_at bytes = if nat_lt (length bytes) 2 || nat_le 4048 (number_in 2 bytes) th
 abbrev pub text_of : ℕ → List ℕ → Read (List ℕ)
 text_of n bytes = if nat_lt 8094 n || nat_lt (length bytes) (2 + n) then Err bytes else Ok (take n (drop 2 bytes), drop n (drop 2 bytes))
 
+-- a text and its length
 unfoldable pub text_at : List ℕ → Read (List ℕ)
 text_at bytes = if nat_lt (length bytes) 2 then Err bytes else text_of (number_in 2 bytes) bytes
 
+-- the four fields of a record
 unfoldable pub record_at : List ℕ → Read Record
 record_at bytes = do
   page ← address_at bytes
@@ -51,10 +57,11 @@ record_at bytes = do
   after ← text_at before.1
   Ok (record { page = page.0; slot = slot.0; before = before.0; after = after.0 }, after.1)
 
--- a name as it is kept
+-- a letter, a digit or `_`, in lower case
 abbrev pub is_low_byte : ℕ → Bool
 is_low_byte b = is_name_byte b && to_ascii_lowercase b == b
 
+-- 1 to 128 such bytes, the first no digit
 abbrev pub is_low_name : List ℕ → Bool
 is_low_name bytes = nat_lt 0 (length bytes) && nat_le (length bytes) 128 && not (is_ascii_digit (slice_index bytes 0)) && list_all is_low_byte bytes
 
@@ -62,29 +69,35 @@ is_low_name bytes = nat_lt 0 (length bytes) && nat_le (length bytes) 128 && not 
 abbrev pub low_name : List ℕ → Option (List ℕ)
 low_name bytes = if is_low_name bytes then Some bytes else None
 
+-- that name, or none
 abbrev pub name_of : List ℕ → Option (List ℕ) → List ℕ → Read (List ℕ)
 name_of bytes None rest = Err bytes
 name_of bytes (Some name) rest = Ok (name, rest)
 
+-- a name and its length
 unfoldable pub name_at : List ℕ → Read (List ℕ)
 name_at [] = Err []
 name_at (n ∷ rest) = if nat_lt (length rest) n then Err (n ∷ rest) else name_of (n ∷ rest) (low_name (take n rest)) (drop n rest)
 
+-- a commit behind its kind
 unfoldable pub commit_at : List ℕ → Read Entry
 commit_at bytes = do
   count ← count_at bytes
   records ← times_at record_at count.0 count.1
   Ok (Commit records.0, records.1)
 
+-- a revert behind its kind
 unfoldable pub revert_at : List ℕ → Read Entry
 revert_at bytes = do
   name ← name_at bytes
   Ok (Revert name.0, name.1)
 
+-- what stands behind the kind
 abbrev pub entry_of_kind : Kind → List ℕ → Read Entry
 entry_of_kind kinds.Commit bytes = commit_at bytes
 entry_of_kind kinds.Revert bytes = revert_at bytes
 
+-- one entry
 unfoldable pub entry_at : List ℕ → Read Entry
 entry_at bytes = do
   kind ← kind_at bytes
