@@ -7,6 +7,7 @@ pub mod State
 pub mod Holding
 pub mod Meaning
 pub mod Next
+pub mod Free
 pub mod Legal
 pub mod Complete
 pub mod Printed

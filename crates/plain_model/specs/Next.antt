@@ -1,7 +1,7 @@
 -- What comes next of a session: its reply, a lock, a cut or a revert, decided from left to right by the order of refusals.
-use Rattle.std.specs.Prelude.{ℕ, pos, negsuc, nat_le, Bool, true, false, ◌==◌, ◌&&◌, ◌||◌, not, if◌then◌else◌, List, [], ◌∷◌, length, Option, Some, None, is_none}
+use Rattle.std.specs.Prelude.{ℕ, ◌-◌, ◌^◌, pos, negsuc, nat_le, Bool, true, false, ◌==◌, ◌&&◌, ◌||◌, not, if◌then◌else◌, List, [], ◌∷◌, length, map, Option, Some, None, is_none}
 use Rattle.std.specs.Str.{bytes_eq}
-use Rattle.std.specs.List.{list_all}
+use Rattle.std.specs.List.{list_all, list_any}
 use Rattle.std.specs.Ordering.{int_cmp, is_gt}
 use Rattle.page_base.specs.declared.numbers.Mode.{Mode}
 use Rattle.page_base.specs.declared.numbers.Mode.TheVariants.{S, X}
@@ -11,7 +11,9 @@ use Rattle.page_base.specs.declared.column.ColType.TheVariants as types
 use Rattle.plain_model.specs.declared.expr.Expr.{Expr}
 use Rattle.plain_model.specs.declared.expr.Expr as code
 use Rattle.plain_model.specs.declared.stmt.Stmt.{Stmt}
-use Rattle.plain_model.specs.declared.stmt.Stmt.TheVariants.{UseDb, CreateTable, Insert, Select, Broken}
+use Rattle.plain_model.specs.declared.stmt.Stmt.TheVariants.{UseDb, CreateTable, Insert, Select, Update, CreateSnap, Broken}
+use Rattle.plain_model.specs.declared.stmt.SetItem.{SetItem}
+use Rattle.plain_model.specs.declared.stmt.SnapFile.{SnapFile}
 use Rattle.plain_model.specs.declared.stmt.Items.{Items}
 use Rattle.plain_model.specs.declared.stmt.Items.TheVariants.{Star}
 use Rattle.plain_model.specs.declared.event.LockName.{LockName}
@@ -23,6 +25,7 @@ use Rattle.plain_model.specs.Tables.{Tables}
 use Rattle.plain_model.specs.State.{Plain, session, stmt_of, see, copy, master, is_source, is_snap, is_suspect, is_being_made, is_restoring}
 use Rattle.plain_model.specs.Holding.{holds, held}
 use Rattle.plain_model.specs.Meaning.{plain, at_place, shape, change_and_reply}
+use Rattle.plain_model.specs.Sound.{are_distinct}
 
 -- what comes next of a session: a reply, an event before it, or nothing where it has no statement left
 pub data Next : Type 0 where
@@ -73,7 +76,7 @@ next_create st k stmt cols =
     unless (no_write st k) (unless ((nat_le 1 (session st k).depth, plain 60011) ∷ (length cols == 0, plain 60016) ∷ [])
     (under st k All X (unless_shape (shape stmt (see st k)) (answers stmt (see st k)))))
 
--- INSERT into a table
+-- INSERT into a table, or UPDATE of one
 abbrev pub next_change : Plain → ℕ → Stmt → List ℕ → Next
 next_change st k stmt table =
     unless (no_write st k)
@@ -89,6 +92,39 @@ next_select st k stmt table =
     else (if is_snap st current then
     unless ((is_suspect st current, plain 926) ∷ []) (unless_shape (shape stmt (copy st current)) (answers stmt (copy st current)))
     else Replies (Msg (plain 208)))
+
+-- these are the data files, each once; their names are all different
+abbrev pub is_each_once : List (List ℕ) → List (List ℕ) → Bool
+is_each_once names files = length names == length files && list_all (λ f. list_any (bytes_eq f) names) files
+
+-- a name is on the volume, or stands twice in the list
+abbrev pub is_taken : Plain → List (List ℕ) → Bool
+is_taken st names = list_any (λ n. list_any (bytes_eq n) st.on_volume) names || not (are_distinct names)
+
+-- eight snapshots are there, or no cut number is left
+abbrev pub is_full : Plain → Bool
+is_full st = nat_le 8 (length st.snaps) || nat_le (2 ^ 64 - 1) st.next_cut
+
+abbrev pub logical_names : List SnapFile → List (List ℕ)
+logical_names files = map (λ f. f.logical) files
+
+abbrev pub sparse_names : List SnapFile → List (List ℕ)
+sparse_names files = map (λ f. f.path) files
+
+-- the refusals of CREATE DATABASE that come before its files are looked for
+abbrev pub no_snap : Plain → ℕ → List ℕ → List SnapFile → List ℕ → List (Bool × Message)
+no_snap st k snap files of =
+    (nat_le 1 (session st k).depth, plain 226) ∷ (is_database st snap, plain 1801) ∷ (not (is_database st of), plain 911) ∷ (not (is_source st of), plain 60003)
+    ∷ (is_restoring st of, plain 927) ∷ (not (is_each_once (logical_names files) st.opening.files), plain 60004) ∷ []
+
+-- the refusals by what is on the volume and in the catalog
+abbrev pub no_room : Plain → List SnapFile → List (Bool × Message)
+no_room st files = (is_taken st (sparse_names files), plain 60005) ∷ (is_full st, plain 60007) ∷ []
+
+-- CREATE DATABASE: the cut past its checks, and once it is made the reply
+abbrev pub next_snap : Plain → ℕ → Option (List ℕ) → List ℕ → List SnapFile → List ℕ → Next
+next_snap st k (Some made) snap files of = unless ((is_suspect st made, plain 60021) ∷ []) (Replies Ok)
+next_snap st k None snap files of = unless (no_snap st k snap files of) (unless (no_room st files) (Cuts snap))
 
 abbrev pub is_int : Column → Bool
 is_int c = is_int_type c.kind
@@ -110,13 +146,20 @@ abbrev pub is_star : Items → Bool
 is_star Star = true
 is_star _ = false
 
+-- one column is set to a number
+abbrev pub is_one_set : List SetItem → Bool
+is_one_set (i ∷ []) = is_small_number i.to
+is_one_set _ = false
+
 -- whether the statement is one of those that are built so far: tables have INT columns, an INSERT has one row of
--- numbers, and a SELECT shows whole rows
+-- numbers, an UPDATE sets one column of all rows to a number, and a SELECT shows whole rows
 abbrev pub is_built : Stmt → Bool
 is_built (UseDb d) = true
 is_built (CreateTable name cols) = list_all is_int cols
 is_built (Insert i) = length i.cols == 0 && is_one_row i.rows
 is_built (Select s) = is_star s.items && (is_none s.filter && length s.order == 0)
+is_built (Update u) = is_none u.filter && is_one_set u.sets
+is_built (CreateSnap snap files of) = true
 is_built (Broken at) = true
 is_built stmt = false
 
@@ -126,6 +169,8 @@ next_built st k (UseDb d) = next_use st d
 next_built st k (CreateTable name cols) = next_create st k (CreateTable name cols) cols
 next_built st k (Insert i) = next_change st k (Insert i) i.table
 next_built st k (Select s) = next_select st k (Select s) s.table
+next_built st k (Update u) = next_change st k (Update u) u.table
+next_built st k (CreateSnap snap files of) = next_snap st k (session st k).making snap files of
 next_built st k (Broken at) = Replies (Msg (at_place 102 at))
 next_built st k stmt = Silent
 
