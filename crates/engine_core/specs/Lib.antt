@@ -1,2 +1,4 @@
 pub mod Entering
 pub mod Pushing
+pub mod Ready
+pub mod Stepping
