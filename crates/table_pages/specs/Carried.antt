@@ -39,6 +39,12 @@ pub record Carries (v : Shown) (edits : List Edit) (tables : Tables) : Type 0 wh
 abbrev pub IsFull : Shown → Type 0
 IsFull v = (i : ℕ) → i < data_pages v → ¬ IsBlankAt (slots_of (img v)) i
 
+-- page i is the first blank one
+pub record IsFirstBlank (v : Shown) (i : ℕ) : Type 0 where
+  pub within : i < data_pages v
+  pub blank : IsBlankAt (slots_of (img v)) i
+  pub first : (k : ℕ) → k < i → ¬ IsBlankAt (slots_of (img v)) k
+
 -- no page is blank, or what says the table's name and columns is longer than a page
 abbrev pub LacksPage : Shown → List ℕ → List Column → Type 0
 LacksPage v name cols = IsFull v ⊎ (8094 < length (header name cols))

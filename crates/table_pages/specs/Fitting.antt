@@ -1,5 +1,7 @@
 -- What the types of values keep, as far as it is needed to read a row again.
-use Rattle.std.specs.Prelude.{FitsSigned, w32, List}
+use Rattle.std.specs.Prelude.{List}
+use Rattle.std.specs.Int.{w32}
+use Rattle.std.specs.Int.RustNames.{FitsSigned}
 use Rattle.std.specs.List.{AllByRecursion}
 use Rattle.page_base.specs.declared.value.Value.{Value}
 use Rattle.page_base.specs.declared.value.Value.TheVariants.{Int}

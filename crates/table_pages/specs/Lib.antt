@@ -9,3 +9,4 @@ pub mod Keys
 pub mod Layout
 pub mod Edits
 pub mod Carried
+pub mod Plans

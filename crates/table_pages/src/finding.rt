@@ -1,12 +1,12 @@
 //! Which page holds which table: the pages behind page 0 of the first file, one after the other up to the first blank one.
 
-ghost use Rattle.std.specs.Prelude.{◌≡◌, ◌<◌, ◌×◌, ℕ, None, Some, IfSome, IfNone, MatchOption};
+ghost use Rattle.std.specs.Prelude.{◌≡◌, ◌<◌, None, Some, IfSome, IfNone, MatchOption};
 ghost use Rattle.std.specs.FinMap as finite;
 ghost use Rattle.plain_model.specs.Tables.{Table, Tables};
 ghost use Rattle.snap_pages.specs.Shown.{img};
 ghost use Rattle.snap_pages.specs.Slots.{slots_of};
-ghost use Rattle.table_pages.specs.Layout.{place, IsBlankAt, IsPacked};
-ghost use Rattle.table_pages.specs.Carried.{data_pages, decoded, Holds, IsFull};
+ghost use Rattle.table_pages.specs.Layout.{place, IsPacked};
+ghost use Rattle.table_pages.specs.Carried.{data_pages, decoded, Holds, IsFull, IsFirstBlank};
 
 use crate::page::{is_blank, is_named};
 use page_base::{Image, Name, PageId};

@@ -1,11 +1,11 @@
 //! The edits of a new table and of a new row.
 
-ghost use Rattle.std.specs.Prelude.{◌≡◌, ◌<◌, ◌≤◌, ◌∷◌, ◌↔◌, ℕ, List, [], length, true, false, None, Some, IsTrue, IfOk, MatchOption};
+ghost use Rattle.std.specs.Prelude.{◌≡◌, ◌+◌, ◌-◌, ◌*◌, ◌<◌, ◌≤◌, ◌∷◌, ◌↔◌, ℕ, List, [], length, true, false, None, Some, IsTrue, IfOk, IfSome, MatchOption};
 ghost use Rattle.std.specs.FinMap as finite;
 ghost use Rattle.std.specs.List.{list_all};
 ghost use Rattle.page_fmt.specs.Content.{content, IsPage};
 ghost use Rattle.page_fmt.specs.Edits.{edited, slot_at};
-ghost use Rattle.page_fmt.specs.Spelling.{used};
+ghost use Rattle.page_fmt.specs.Spelling.{used, row_bytes};
 ghost use Rattle.page_base.specs.declared.numbers.PageId.{PageId};
 ghost use Rattle.plain_model.specs.Tables.{Table, Tables, Add, Put, applied, key_of};
 ghost use Rattle.plain_model.specs.Sound.{is_definition};

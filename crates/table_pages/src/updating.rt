@@ -1,6 +1,6 @@
 //! The edits of an UPDATE: one for each row whose bytes change, in the order of the slots.
 
-ghost use Rattle.std.specs.Prelude.{◌≡◌, ◌<◌, ℕ, List, length, true, false, map, Some, IfOk, OnOk};
+ghost use Rattle.std.specs.Prelude.{◌≡◌, ◌≢◌, ◌<◌, ◌↔◌, ℕ, List, [], length, true, false, map, Some, IsTrue, IfOk, OnOk};
 ghost use Rattle.std.specs.List.{list_all, list_any};
 ghost use Rattle.page_fmt.specs.Content.{IsPage};
 ghost use Rattle.page_base.specs.declared.numbers.PageId.{PageId};
@@ -12,6 +12,7 @@ ghost use Rattle.snap_pages.specs.Shown.{img};
 ghost use Rattle.snap_pages.specs.Slots.{slots_of};
 ghost use Rattle.table_pages.specs.Fitting.{FitInts};
 ghost use Rattle.table_pages.specs.Rows.{row_of, row_bytes};
+ghost use Rattle.table_pages.specs.Plans.{Plans};
 ghost use Rattle.table_pages.specs.Layout.{place, IsPacked};
 ghost use Rattle.table_pages.specs.Carried.{data_pages, decoded, Holds, Carries};
 
@@ -70,4 +71,67 @@ fn updated_bytes(alloc: Global, sets: &[SetItem], cols: &[Column], bytes: &[u8])
     let row = read_row(alloc, cols, bytes)?;
     let new = with_sets(alloc, sets, cols, row.as_slice())?;
     row_bytes(alloc, new.as_slice())
+}
+
+fn are_same(a: &[u8], b: &[u8]) -> bool
+    ensures { IsTrue result ↔ (a.now ≡ b.now) }
+{
+    a == b
+}
+
+// Plans the edit of one slot, where its row's bytes change.
+fn plan_slot(
+    alloc: Global,
+    edits: &mut EditList,
+    page: PageId,
+    slot: u16,
+    sets: &[SetItem],
+    cols: &[Column],
+    bytes: &[u8],
+) -> Result<(), NoMemory>
+    requires { list_all (λ s. is_small_number s.to) sets.now ≡ true }
+    ensures empty { OnOk result (bytes.now ≡ [] → edits.new ≡ edits.old) }
+    ensures row { OnOk result ((row : List Value) → bytes.now ≢ [] → row_of cols.now bytes.now ≡ Some row →
+        Plans edits.old edits.new page slot bytes.now (with_sets sets.now cols.now row)) }
+{
+    if bytes.is_empty() {
+        return Ok(());
+    }
+    let new = updated_bytes(alloc, sets, cols, bytes)?;
+    if are_same(new.as_slice(), bytes) {
+        return Ok(());
+    }
+    edits.push(Edit {
+        page,
+        slot,
+        bytes: new,
+    })
+}
+
+/// The edits of an UPDATE of all rows of the table of page `i`: one for each row whose bytes change, in the order of the
+/// slots. They always fit, since no row grows.
+pub fn plan_update<P: PageFile>(
+    alloc: Global,
+    pages: &SnapPages<P>,
+    i: u32,
+    cols: &Columns,
+    sets: &SetList,
+) -> Result<EditList, NoMemory>
+    requires few { data_pages pages.now < 4294967295 }
+    requires there { i < data_pages pages.now }
+    requires pages { (p : PageId) → IsPage (img pages.now p) }
+    requires packed { IsPacked (data_pages pages.now) (slots_of (img pages.now)) }
+    requires small { list_all (λ s. is_small_number s.to) sets.now ≡ true }
+    ensures { IfOk result (λ edits. (name : List ℕ) (t : Table) (tables : Tables) →
+        Holds (img pages.now (place i)) name t → decoded pages.now ≡ Some tables →
+        cols.now ≡ t.cols → list_all is_int t.cols ≡ true → list_any (λ s. is_key_column t.cols s.col) sets.now ≡ false →
+        Carries pages.now edits (apply (map (Put name) (updated_rows sets.now t)) tables)) }
+{
+    let image = image(pages, i);
+    let page = place(i);
+    let mut edits = EditList::new(alloc);
+    for s in 1..slots(image) {
+        plan_slot(alloc, &mut edits, page, s, sets.as_slice(), cols.as_slice(), slot(image, s))?;
+    }
+    Ok(edits)
 }
