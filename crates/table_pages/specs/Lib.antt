@@ -1,0 +1,12 @@
+pub mod Gathered
+pub mod Numbers
+pub mod Rows
+pub mod Headers
+pub mod Reading
+pub mod Names
+pub mod Fitting
+pub mod Keys
+pub mod Layout
+pub mod Edits
+pub mod Carried
+pub mod Plans

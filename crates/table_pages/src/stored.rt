@@ -1,0 +1,112 @@
+//! A table in memory: its rows in an ordered map by their keys.
+
+ghost use Rattle.std.specs.Prelude.{◌≡◌, ◌↔◌, [], length, map, IsTrue, IfOk, OnOk, OnErr};
+ghost use Rattle.std.specs.FinMap as finite;
+ghost use Rattle.plain_model.specs.Tables.{with_row, key_of, rows_of};
+ghost use Rattle.plain_model.specs.Meaning.{shown, shown_rows};
+
+use page_base::{Column, Columns, NoMemory, Row, RowList, Value};
+use std::alloc::Global;
+use std::collections::BTreeMap;
+use std::marker::Model;
+
+/// A table: its columns, and its rows by their keys.
+#[derive(Drop)]
+pub struct StoredTable {
+    cols: Columns,
+    rows: BTreeMap<Row, Row>,
+}
+
+impl Model for StoredTable {
+    ghost use Rattle.std.specs.FinMap as finite;
+    ghost use Rattle.plain_model.specs.Tables.{Table};
+    ghost use Rattle.page_base.specs.contracts.value.Value as v;
+    ghost use Rattle.std.specs.Coded.{codes};
+
+    ghost Value = { Table };
+
+    ghost coded = { Prim.hlevel (codes, finite.code, v.the_row.coded) };
+
+    ghost view = { λ t. record { cols = t.cols; rows = finite.from_entries t.rows.entries } };
+}
+
+impl StoredTable {
+    /// A table without rows. Takes no memory.
+    pub fn new(alloc: Global, cols: Columns) -> Self
+        ensures { result ≡ record { cols = cols; rows = finite.empty } }
+    {
+        StoredTable {
+            cols,
+            rows: BTreeMap::new(alloc),
+        }
+    }
+
+    /// Its columns.
+    pub fn cols(&self) -> &[Column]
+        ensures { result.now ≡ self.now.cols }
+    {
+        self.cols.as_slice()
+    }
+
+    /// How many rows there are.
+    pub fn len(&self) -> usize
+        ensures { result ≡ length (rows_of self.now) }
+    {
+        self.rows.len()
+    }
+
+    /// Whether there is no row.
+    pub fn is_empty(&self) -> bool
+        ensures { IsTrue result ↔ (rows_of self.now ≡ []) }
+    {
+        self.len() == 0
+    }
+
+    /// Whether a row of this key is there.
+    pub fn has_key(&self, key: &Row) -> bool
+        ensures { result ≡ finite.contains_key self.now.rows key.now }
+    {
+        self.rows.contains_key(key)
+    }
+
+    /// Puts a row in place of the one of its key. After want of memory the table is as before.
+    pub fn put(&mut self, key: Row, row: Row) -> Result<(), NoMemory>
+        requires { key ≡ key_of self.old.cols row }
+        ensures ok { OnOk result (self.new ≡ with_row row self.old) }
+        ensures err { OnErr result (self.new ≡ self.old) }
+    {
+        self.rows.insert(key, row)?;
+        Ok(())
+    }
+
+    /// Its rows as a reply shows them, in ascending order of keys.
+    pub fn shown_rows(&self, alloc: Global) -> Result<RowList, NoMemory>
+        ensures { IfOk result (λ rows. rows ≡ shown_rows (rows_of self.now)) }
+    {
+        let mut list = RowList::new(alloc);
+        for row in self.rows.values() {
+            list.push(shown_row(alloc, row)?)?;
+        }
+        Ok(list)
+    }
+}
+
+// The value as a reply shows it: every number is a `Big`.
+fn shown_value(alloc: Global, value: &Value) -> Result<Value, NoMemory>
+    ensures { IfOk result (λ v. v ≡ shown value.now) }
+{
+    match value {
+        Value::Int(number) => Ok(Value::Big(i64::from(*number))),
+        other => other.copy(alloc),
+    }
+}
+
+fn shown_row(alloc: Global, row: &Row) -> Result<Row, NoMemory>
+    ensures { IfOk result (λ r. r ≡ map shown row.now) }
+{
+    let mut values = Row::new(alloc);
+    for value in row.as_slice() {
+        values.push(shown_value(alloc, value)?)?;
+    }
+    Ok(values)
+}
