@@ -2,3 +2,4 @@ pub mod Entering
 pub mod Pushing
 pub mod Ready
 pub mod Stepping
+pub mod Safe

@@ -4,5 +4,7 @@
 mod answer;
 mod ledger;
 mod pushing;
+mod seat;
 
 pub use ledger::Ledger;
+pub use seat::Seat;
