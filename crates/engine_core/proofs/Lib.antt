@@ -1,2 +1,4 @@
 mod PushLemmas
 mod Stepping
+mod SeatLemmas
+mod SafeLemmas

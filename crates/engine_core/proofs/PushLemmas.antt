@@ -85,14 +85,19 @@ pushes_refl v = record { img = refl; counts = refl; count = refl; next_cut = ref
 
 -- TURNS, ONE LIST AFTER THE OTHER
 
+-- a suspect snapshot stays suspect
+pub still_lost : (x y : Snap) → Alike x y → x.state ≡ Suspect → y.state ≡ Suspect
+still_lost x y a lost = elim a.state as (λ s. y.state ≡ Suspect) [ inl e ↦ e ∙ lost | inr t ↦ absurd (t.0 lost) ]
+
 is_turn_before : (u v w : Shown) → Pushes v w → (e : Event) → IsTurn u v e → IsTurn u w e
-is_turn_before u v w b e t = record { snap = t.snap; there = t.there; is = t.is; rose = rose_then (faults_of u t.snap) (faults_of v t.snap) (faults_of w t.snap) t.rose (b.each t.snap).later }
+is_turn_before u v w b e t = record { snap = t.snap; there = t.there; is = t.is; lost = still_lost (snap_at (shown.catalog v) t.snap) (snap_at (shown.catalog w) t.snap) (b.each t.snap) t.lost; rose = rose_then (faults_of u t.snap) (faults_of v t.snap) (faults_of w t.snap) t.rose (b.each t.snap).later }
 
 is_turn_behind : (u v w : Shown) → Pushes u v → (e : Event) → IsTurn v w e → IsTurn u w e
 is_turn_behind u v w a e t = record {
   snap = t.snap;
   there = let c = a.count in let h = t.there in omega (arith, c, h);
   is = t.is ∙ ap Turned (a.each t.snap).name;
+  lost = t.lost;
   rose = then_rose (faults_of u t.snap) (faults_of v t.snap) (faults_of w t.snap) (a.each t.snap).later t.rose;
 }
 
@@ -112,8 +117,8 @@ turns_trans a b c u v w p q x y = record {
   legal = λ st is. legal_append st x.events y.events (x.legal st is) (subst (λ (m : Plain). LegalFrom m y.events) (sym (x.leads st is)) (y.legal (record st { snaps = snaps_of v; moment = st.moment + length x.events }) refl));
   leads = λ st is. end_append st x.events y.events ∙ ap (λ (m : Plain). end_from m y.events) (x.leads st is) ∙ y.leads (record st { snaps = snaps_of v; moment = st.moment + length x.events }) refl
       ∙ ap (λ (n : ℕ). record st { snaps = snaps_of w; moment = n }) (simp length-append (omega arith));
-  room = let r = x.room in let s = y.room in omega (arith, r, s);
-  fewer = let r = x.fewer in let s = y.fewer in omega (arith, r, s);
+  room = let r = x.room in let s = y.room in let l = length-append x.events y.events in omega (arith, r, s, l);
+  fewer = let r = x.fewer in let s = y.fewer in let l = length-append x.events y.events in omega (arith, r, s, l);
 }
 
 pub turns_none : (a : Kept) (v w : Shown) → snaps_of w ≡ snaps_of v → sound w ≡ sound v → Turns a a v w
@@ -123,7 +128,7 @@ turns_none a v w e s = record {
   each = tt;
   legal = λ st is. tt;
   leads = λ st is. ap (λ (ss : List _). record st { snaps = ss }) (is ∙ sym e) ∙ ap (λ (n : ℕ). record st { snaps = snaps_of w; moment = n }) (omega arith);
-  room = omega (arith, s);
+  room = omega arith;
   fewer = omega (arith, s);
 }
 
@@ -236,6 +241,9 @@ module _ (v w : Shown) (s : SnapNo) (x : Snap) (has : IsOpen v s) (catalog : IsC
           rw (at j d l) (not_lost (get_or xs j no_snap) (elim (cases_eq j s.0) [ | inl same ↦ inl (one_place j same) | inr ne ↦ inr (other_name j l ne) ]))) in
       rw (e, there, sound) refl
 
+  lost_now : state_of w s ≡ Suspect
+  lost_now = ap (λ (u : Shown). state_of u s) is ∙ ap (λ (y : Snap). y.state) (get_or-set_same (shown.catalog v).snaps s.0 x no_snap has) ∙ lost
+
   one_less : sound w + 1 ≡ sound v
   unfolding xs sound
   one_less =
@@ -250,10 +258,10 @@ module _ (v w : Shown) (s : SnapNo) (x : Snap) (has : IsOpen v s) (catalog : IsC
   turns_one a b made room rose = record {
     events = Turned (name_of v s) ∷ [];
     more = ap (λ (k : Kept). k.events) made;
-    each = (record { snap = s; there = has; is = refl; rose = rose }, tt);
+    each = (record { snap = s; there = has; is = refl; lost = lost_now; rose = rose }, tt);
     legal = λ st e. (may_turn st e, tt);
     leads = λ st e. ap (λ ss. record st { snaps = ss; moment = st.moment + 1 }) (ap (map (turned (name_of v s))) e ∙ turned_snaps);
-    room = let l = one_less in let r : b.room ≡ a.room - 1 = ap (λ (k : Kept). k.room) made in omega (arith, l, r, room);
+    room = let r : b.room ≡ a.room - 1 = ap (λ (k : Kept). k.room) made in omega (arith, r, room);
     fewer = let l = one_less in omega (arith, l);
   }
 

@@ -3,3 +3,4 @@ pub mod Pushing
 pub mod Ready
 pub mod Stepping
 pub mod Safe
+pub mod Doing

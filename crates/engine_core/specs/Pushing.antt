@@ -12,7 +12,7 @@ use Rattle.snap_pages.specs.declared.state.SnapState.{SnapState}
 use Rattle.snap_pages.specs.declared.state.SnapState.TheVariants.{Making, Online, Suspect}
 use Rattle.snap_pages.specs.Sparse.{faults}
 use Rattle.snap_pages.specs.Catalog.{Snap, snap_at}
-use Rattle.snap_pages.specs.Shown.{Shown, img, counts, count, IsOpen, set_of}
+use Rattle.snap_pages.specs.Shown.{Shown, img, counts, count, IsOpen, set_of, state_of}
 use Rattle.snap_pages.specs.Shown as shown
 use Rattle.snap_pages.specs.Views.{KeepsViews}
 use Rattle.engine_core.specs.Entering.{Kept}
@@ -72,6 +72,7 @@ pub record IsTurn (old new : Shown) (event : Event) : Type 0 where
   pub snap : SnapNo
   pub there : IsOpen old snap
   pub is : event ≡ Turned (name_of old snap)
+  pub lost : state_of new snap ≡ Suspect
   pub rose : Rose (faults_of old snap) (faults_of new snap)
 
 -- The events that came are turns of snapshots, and lead every machine that has the old snapshots to the new ones.
@@ -81,5 +82,5 @@ pub record Turns (kept kept' : Kept) (old new : Shown) : Type 0 where
   pub each : AllByRecursion (IsTurn old new) events
   pub legal : (st : Plain) → st.snaps ≡ snaps_of old → LegalFrom st events
   pub leads : (st : Plain) → st.snaps ≡ snaps_of old → end_from st events ≡ record st { snaps = snaps_of new; moment = st.moment + length events }
-  pub room : kept'.room + sound old ≡ kept.room + sound new
-  pub fewer : sound new ≤ sound old
+  pub room : kept'.room + length events ≡ kept.room
+  pub fewer : length events + sound new ≡ sound old
