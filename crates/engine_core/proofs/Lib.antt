@@ -2,3 +2,4 @@ mod PushLemmas
 mod Stepping
 mod SeatLemmas
 mod SafeLemmas
+mod Deciding

@@ -94,8 +94,8 @@ events_few k n b (UnderTable name mode r) es = simp length-append (omega arith)
 
 -- A STATEMENT
 
-module _ (e : Run) (safe : Safe e) (i : ℕ) (lt : i < length e.scripts) (here : (seat_at e i).gone ≡ false) (stmt : Stmt) (says : slice_get (script_at e i) (seat_at e i).said ≡ Some stmt) (simple : IsPlain stmt)
-    (answer : Answer) (v : Shown) (kept : Kept) (does : Does (i + 1) ((seat_at e i).said + 1) answer e.kept kept e.shown v)
+module _ (e : Run) (safe : Safe e) (i : ℕ) (lt : i < length e.scripts) (here : (seat_at e i).gone ≡ false) (stmt : Stmt) (says : slice_get (script_at e i) (seat_at e i).said ≡ Some stmt)
+    (answer : Answer) (simple : IsPlain stmt (reply_of answer)) (v : Shown) (kept : Kept) (does : Does (i + 1) ((seat_at e i).said + 1) answer e.kept kept e.shown v)
     (comes : IsTrue e.disk.told → Comes e.opening (seat_at e i).current (committed (state e)) (snaps_of v) stmt answer)
     (tables : AreTables (data_pages v) (img v) (tables_after stmt (reply_of answer) (committed (state e)))) (ints : AreInts (tables_after stmt (reply_of answer) (committed (state e)))) where
   abbrev said : ℕ

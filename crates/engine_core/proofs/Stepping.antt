@@ -144,8 +144,11 @@ module _ (st : Plain) (k : ℕ) (there : IsTrue (is_session st k)) where
       copies = λ snap. refl;
     }
 
-    pub effects : (stmt : Stmt) (reply : Reply) → IsPlain stmt → Effects said current gone since locks first j ss m stmt reply
-    effects (CreateSnap snap files of) reply h = absurd h
+    pub effects : (stmt : Stmt) (reply : Reply) → IsPlain stmt reply → Effects said current gone since locks first j ss m stmt reply
+    effects (CreateSnap snap files of) (Msg x) h = stays (CreateSnap snap files of) (Msg x) (rw h refl) refl refl
+    effects (CreateSnap snap files of) Ok h = absurd h
+    effects (CreateSnap snap files of) (Count n) h = absurd h
+    effects (CreateSnap snap files of) (Rows rs) h = absurd h
     effects (UseDb d) (Msg x) h = stays (UseDb d) (Msg x) refl refl refl
     effects (UseDb d) Ok h = enters d Ok refl refl refl
     effects (UseDb d) (Count n) h = enters d (Count n) refl refl refl
@@ -229,10 +232,10 @@ module _ (opening : Opening) (st : Plain) (k : ℕ) (around : Around opening st 
       abbrev before_reply : Plain
       before_reply = mid st k (busy said current gone since (locks_of answer) (first_of answer st.moment) None) st.journal ss m
 
-      abbrev pub effects_of : IsPlain stmt → Effects st k around.there said current gone since (locks_of answer) (first_of answer st.moment) st.journal ss m stmt (reply_of answer)
+      abbrev pub effects_of : IsPlain stmt (reply_of answer) → Effects st k around.there said current gone since (locks_of answer) (first_of answer st.moment) st.journal ss m stmt (reply_of answer)
       effects_of plain = effects st k around.there said current gone since (locks_of answer) (first_of answer st.moment) st.journal ss m stmt (reply_of answer) plain
 
-      replied : (plain : IsPlain stmt) → after before_reply (Said (number k) (said + 1) st.moment (reply_of answer)) ≡ mid st k (idle (said + 1) (current_after stmt (reply_of answer) current) gone (m + 1)) (effects_of plain).journal ss (m + 1)
+      replied : (plain : IsPlain stmt (reply_of answer)) → after before_reply (Said (number k) (said + 1) st.moment (reply_of answer)) ≡ mid st k (idle (said + 1) (current_after stmt (reply_of answer) current) gone (m + 1)) (effects_of plain).journal ss (m + 1)
       replied plain =
           after_said st k around.there said current (current_after stmt (reply_of answer) current) gone since (locks_of answer) (first_of answer st.moment) None st.journal (effects_of plain).journal ss ss m st stmt (said + 1) st.moment (reply_of answer)
           refl around.settled (stmt_mid (busy said current gone since (locks_of answer) (first_of answer st.moment) None) st.journal ss m ∙ says) (effects_of plain).leads
@@ -266,11 +269,11 @@ module _ (opening : Opening) (st : Plain) (k : ℕ) (around : Around opening st 
       counted_all : total + 1 ≡ st.moment + length all_events
       counted_all = simp length-append (omega arith)
 
-      abbrev pub journal_after : IsPlain stmt → List Entry
+      abbrev pub journal_after : IsPlain stmt (reply_of answer) → List Entry
       journal_after plain = (effects_of ss answer total plain).journal
 
       -- where all events lead
-      pub leads_all : (plain : IsPlain stmt) → end_from st all_events ≡ mid st k (idle (said + 1) (current_after stmt (reply_of answer) current) gone (st.moment + length all_events)) (journal_after plain) ss (st.moment + length all_events)
+      pub leads_all : (plain : IsPlain stmt (reply_of answer)) → end_from st all_events ≡ mid st k (idle (said + 1) (current_after stmt (reply_of answer) current) gone (st.moment + length all_events)) (journal_after plain) ss (st.moment + length all_events)
       leads_all plain =
           let rest : List Event = turned ++ Said (number k) (said + 1) st.moment (reply_of answer) ∷ [] in
           end_append st (lock_events k answer) rest

@@ -1,5 +1,5 @@
 -- The plain machine's states around one session's statement.
-use Rattle.std.specs.Prelude.{ℕ, ◌≡◌, ◌≢◌, ◌+◌, ◌-◌, Bool, ◌&&◌, List, [], ◌∷◌, ◌++◌, length, slice_set, slice_index_or, Option, Some, None, IsTrue}
+use Rattle.std.specs.Prelude.{ℕ, ◌≡◌, ◌≢◌, ◌+◌, ◌-◌, Bool, false, ◌==◌, ◌&&◌, List, [], ◌∷◌, ◌++◌, length, slice_set, slice_index_or, Option, Some, None, IsTrue}
 use Rattle.std.specs.List.{list_any}
 use Rattle.std.specs.Str.{bytes_eq}
 use Rattle.page_base.specs.declared.numbers.SessNo.{SessNo}
@@ -60,10 +60,12 @@ current_after stmt (Msg message) current = current
 current_after (UseDb name) reply current = name
 current_after stmt reply current = current
 
--- all statements but CREATE DATABASE, whose refusals may leave names in doubt
-abbrev pub IsPlain : Stmt → Type 0
-IsPlain (CreateSnap snap files of) = ⊥
-IsPlain stmt = Unit {0}
+-- the reply has no effect beside those of table statements and USE: it isn't one of CREATE DATABASE, or is a refusal of it
+-- that leaves no name in doubt
+abbrev pub IsPlain : Stmt → Reply → Type 0
+IsPlain (CreateSnap snap files of) (Msg m) = (m.number == 60021) ≡ false
+IsPlain (CreateSnap snap files of) reply = ⊥
+IsPlain stmt reply = Unit {0}
 
 -- The machine around session k: it is a session, the run began so, nothing is being reverted, and no other session
 -- holds a lock.
