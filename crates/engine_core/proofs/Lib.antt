@@ -3,3 +3,4 @@ mod Stepping
 mod SeatLemmas
 mod SafeLemmas
 mod Deciding
+mod Placed

@@ -28,10 +28,10 @@ use Rattle.engine_core.specs.Safe.{Run, state, seat_at, no_seat, script_at, InSt
 -- THE MACHINE AROUND A SESSION
 
 module _ (e : Run) (step : InStep e) (seated : AreSeated e) (i : ℕ) (lt : i < length e.scripts) where
-  no_locks : (j : ℕ) → (get_or (state e).sessions j fresh_session).locks ≡ []
+  no_locks : (j : ℕ) → ((get_or (state e).sessions j fresh_session).locks ≡ []) × ((get_or (state e).sessions j fresh_session).making ≡ None)
   no_locks j = elim (cases_lt j (length e.scripts)) [
-    | inl l ↦ let s = seated.each j l in ap (λ (t : Session). t.locks) s.is
-    | inr ge ↦ ap (λ (t : Session). t.locks) (get_or_past (state e).sessions j fresh_session (let n = seated.sessions in omega (arith, ge, n)))
+    | inl l ↦ let s = seated.each j l in (ap (λ (t : Session). t.locks) s.is, ap (λ (t : Session). t.making) s.is)
+    | inr ge ↦ let past = get_or_past (state e).sessions j fresh_session (let n = seated.sessions in omega (arith, ge, n)) in (ap (λ (t : Session). t.locks) past, ap (λ (t : Session). t.making) past)
   ]
 
   pub around : Around e.opening (state e) (i + 1)

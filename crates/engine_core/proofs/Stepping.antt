@@ -2,6 +2,7 @@
 use Rattle.std.proofs.Common.{◌≡◌, ◌≢◌, ◌+◌, ◌-◌, ◌<◌, ◌≤◌, ◌⊎◌, inl, inr, ℕ, suc, zero, Bool, true, false, ◌&&◌, not, nat_eq, nat_le, cond, IsTrue, List, [], ◌∷◌, ◌++◌, length, get_or, refl, ap, sym, ◌∙◌, subst, arith, length-set, length-append, eq-eqb}
 use Rattle.std.specs.Prelude.{Option, Some, None, slice_get, unwrap_or, ◌==◌}
 use Rattle.std.proofs.Math.ListN.{set}
+use Rattle.std.proofs.lemmas.List.Folds.{list_any_none}
 use Rattle.std.proofs.lemmas.Bool.{cases_eq, leb-true}
 use Rattle.std.proofs.lemmas.List.{get_or-set_same, get_or-set_other, set-set, set-get_or}
 use Rattle.page_base.specs.declared.numbers.Mode.{Mode}
@@ -16,7 +17,7 @@ use Rattle.plain_model.specs.declared.reply.Reply.{Reply}
 use Rattle.plain_model.specs.declared.reply.Reply.TheVariants.{Ok, Count, Rows, Msg}
 use Rattle.plain_model.specs.Tables.{Change, Tables, apply}
 use Rattle.plain_model.specs.Journal.{Opening, Entry, Committed, source, copy}
-use Rattle.plain_model.specs.State.{Plain, Session, Snap, fresh_session, session, stmt_of, is_session, see}
+use Rattle.plain_model.specs.State.{Plain, Session, Snap, fresh_session, session, stmt_of, is_session, is_being_made, see}
 use Rattle.plain_model.specs.Meaning.{change_and_reply}
 use Rattle.plain_model.specs.Holding.{holder_from, held, is_in_the_way}
 use Rattle.plain_model.specs.Next.{Wants, next_of}
@@ -184,8 +185,22 @@ module _ (opening : Opening) (st : Plain) (k : ℕ) (around : Around opening st 
   quiet : (s : Session) (j : List Entry) (ss : List Snap) (m : ℕ) (name : LockName) (mode : Mode) → held (mid st k s j ss m) k name mode ≡ None
   quiet s j ss m name mode = holder_none 1 (set st.sessions (k - 1) s) k name mode (λ i lt. elim (cases_eq i (k - 1)) [
     | inl e ↦ inl (let n = numbered st k around.there in omega (arith, e, n.0))
-    | inr ne ↦ inr (ap (λ (t : Session). t.locks) (get_or-set_other st.sessions (k - 1) i s fresh_session ne) ∙ around.others i (λ e. ne (omega (arith, e))))
+    | inr ne ↦ inr (ap (λ (t : Session). t.locks) (get_or-set_other st.sessions (k - 1) i s fresh_session ne) ∙ (around.others i (λ e. ne (omega (arith, e)))).0)
   ])
+
+  unmade : (s : Session) (j : List Entry) (ss : List Snap) (m : ℕ) → s.making ≡ None → (d : List ℕ) → is_being_made (mid st k s j ss m) d ≡ false
+  unmade s j ss m none d = list_any_none _ (set st.sessions (k - 1) s) (λ i x l. let h = each_unmade s none i in let g : get_or (set st.sessions (k - 1) s) i x ≡ get_or (set st.sessions (k - 1) s) i fresh_session = within_any (set st.sessions (k - 1) s) i x l in rw (g, h) refl)
+    where
+      within_any : (l : List Session) (i : ℕ) (x : Session) → i < length l → get_or l i x ≡ get_or l i fresh_session
+      within_any [] i x lt = absurd (omega (arith, lt))
+      within_any (y ∷ ys) zero x lt = refl
+      within_any (y ∷ ys) (suc i) x lt = within_any ys i x (omega (arith, lt))
+
+      each_unmade : (s : Session) → s.making ≡ None → (i : ℕ) → (get_or (set st.sessions (k - 1) s) i fresh_session).making ≡ None
+      each_unmade s none i = elim (cases_eq i (k - 1)) [
+        | inl e ↦ ap (λ n. (get_or (set st.sessions (k - 1) s) n fresh_session).making) e ∙ ap (λ (t : Session). t.making) (get_or-set_same st.sessions (k - 1) s fresh_session (within st k around.there)) ∙ none
+        | inr ne ↦ ap (λ (t : Session). t.making) (get_or-set_other st.sessions (k - 1) i s fresh_session ne) ∙ (around.others i (λ e. ne (omega (arith, e)))).1
+      ]
 
   pub ready_mid : (said : ℕ) (current : List ℕ) (gone : Bool) (since : ℕ) (locks : Locks) (first : Option ℕ) (j : List Entry) (ss : List Snap) (m : ℕ) (tables : Tables) →
       is_lost ss opening.source ≡ false → source opening j ≡ tables → Ready opening current tables (mid st k (busy said current gone since locks first None) j ss m) k locks
@@ -199,6 +214,7 @@ module _ (opening : Opening) (st : Plain) (k : ℕ) (around : Around opening st 
         work = ap (λ (u : Session). u.work) is;
         making = ap (λ (u : Session). u.making) is;
         locks_are = ap (λ (u : Session). u.locks) is;
+        unmade = unmade s j ss m refl;
         quiet = quiet s j ss m;
         tables_are = ap (λ (o : Opening). source o j) around.opened ∙ t;
         opened = around.opened;

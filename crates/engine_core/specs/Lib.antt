@@ -4,3 +4,4 @@ pub mod Ready
 pub mod Stepping
 pub mod Safe
 pub mod Doing
+pub mod Databases

@@ -8,7 +8,7 @@ use Rattle.plain_model.specs.declared.event.LockName.TheVariants.{All, Table}
 use Rattle.plain_model.specs.declared.reply.Reply.{Reply}
 use Rattle.plain_model.specs.Tables.{Tables}
 use Rattle.plain_model.specs.Journal.{Opening}
-use Rattle.plain_model.specs.State.{Plain, Snap, session, is_session, is_suspect, committed}
+use Rattle.plain_model.specs.State.{Plain, Snap, session, is_session, is_suspect, is_being_made, committed}
 use Rattle.plain_model.specs.Holding.{held}
 use Rattle.plain_model.specs.Next.{Replies, Wants, next_of}
 use Rattle.plain_model.specs.Free.{IsFree}
@@ -27,6 +27,7 @@ pub record Ready (opening : Opening) (current : List ℕ) (tables : Tables) (st 
   pub work : (session st k).work ≡ []
   pub making : (session st k).making ≡ None
   pub locks_are : (session st k).locks ≡ locks
+  pub unmade : (d : List ℕ) → is_being_made st d ≡ false
   pub quiet : (name : LockName) (mode : Mode) → held st k name mode ≡ None
   pub tables_are : committed st ≡ tables
   pub opened : st.opening ≡ opening

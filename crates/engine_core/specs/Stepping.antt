@@ -68,12 +68,12 @@ IsPlain (CreateSnap snap files of) reply = ⊥
 IsPlain stmt reply = Unit {0}
 
 -- The machine around session k: it is a session, the run began so, nothing is being reverted, and no other session
--- holds a lock.
+-- holds a lock or makes a snapshot.
 pub record Around (opening : Opening) (st : Plain) (k : ℕ) : Type 0 where
   pub there : IsTrue (is_session st k)
   pub opened : st.opening ≡ opening
   pub settled : st.restoring ≡ None
-  pub others : (i : ℕ) → i + 1 ≢ k → (slice_index_or st.sessions i fresh_session).locks ≡ []
+  pub others : (i : ℕ) → i + 1 ≢ k → ((slice_index_or st.sessions i fresh_session).locks ≡ []) × ((slice_index_or st.sessions i fresh_session).making ≡ None)
 
 -- no suspect snapshot has this name
 abbrev pub is_lost : List Snap → List ℕ → Bool

@@ -2,6 +2,7 @@
 #![tactic(auto)]
 
 mod answer;
+mod database;
 mod ledger;
 mod pushing;
 mod seat;
