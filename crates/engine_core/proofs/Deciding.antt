@@ -24,7 +24,7 @@ use Rattle.plain_model.specs.Meaning.{plain, at_place, shape, change_and_reply}
 use Rattle.plain_model.specs.Next.{Next, Replies, Wants, unless, unless_shape, waits, under, answers, no_write, next_change, next_create, next_select, next_built, next_of, is_built}
 use Rattle.plain_model.specs.Free.{IsFree, NoMemory, NoRoom, is_of_tables, may_grow, is_success, reads_suspect}
 use Rattle.engine_core.specs.declared.answer.Answer.TheVariants.{AtOnce, UnderAll, UnderTable}
-use Rattle.engine_core.specs.Ready.{Locks, Ready, Allowed, Comes}
+use Rattle.engine_core.specs.Ready.{Locks, Seen, Ready, Allowed, Comes}
 use Rattle.engine_core.proofs.PushLemmas.{bytes_same}
 
 -- UNDER LOCKS
@@ -35,8 +35,8 @@ not_built st k stmt b = rw b refl
 pub built : (st : Plain) (k : ℕ) (stmt : Stmt) → is_built stmt ≡ true → next_of st k (Some stmt) ≡ next_built st k stmt
 built st k stmt b = rw b refl
 
-module _ (opening : Opening) (current : List ℕ) (tables : Tables) (st : Plain) (k : ℕ) (locks : Locks) (ready : Ready opening current tables st k locks) where
-  pub seen_tables : see st k ≡ tables
+module _ (opening : Opening) (current : List ℕ) (seen : Seen) (st : Plain) (k : ℕ) (locks : Locks) (ready : Ready opening current seen st k locks) where
+  pub seen_tables : see st k ≡ seen.source
   seen_tables = ap (λ w. apply w (committed st)) ready.work ∙ ready.tables_are
 
   pub wanted : (name : LockName) (mode : Mode) (next : Next) → holds locks name mode ≡ false → under st k name mode next ≡ Wants name mode
@@ -76,101 +76,101 @@ shared name mode = refl
 -- a statement that first locks all tables in S, and then its own table
 pub record IsOfTable (stmt : Stmt) (table : List ℕ) (mode : Mode) : Type 0 where
   pub built : is_built stmt ≡ true
-  pub next : (opening : Opening) (current : List ℕ) (tables : Tables) (st : Plain) (k : ℕ) (locks : Locks) → Ready opening current tables st k locks → current ≡ opening.source →
-      next_built st k stmt ≡ under st k All S (unless_shape (shape stmt tables) (under st k (Table table) mode (answers stmt tables)))
+  pub next : (opening : Opening) (current : List ℕ) (seen : Seen) (st : Plain) (k : ℕ) (locks : Locks) → Ready opening current seen st k locks → current ≡ opening.source →
+      next_built st k stmt ≡ under st k All S (unless_shape (shape stmt seen.source) (under st k (Table table) mode (answers stmt seen.source)))
 
 pub of_insert : (i : InsertStmt) → is_built (Insert i) ≡ true → IsOfTable (Insert i) i.table X
 of_insert i b = record {
   built = b;
-  next = λ opening current tables st k locks ready here.
-      may_write opening current tables st k locks ready here (under st k All S (unless_shape (shape (Insert i) (see st k)) (under st k (Table i.table) X (answers (Insert i) (see st k)))))
-      ∙ ap (λ t. under st k All S (unless_shape (shape (Insert i) t) (under st k (Table i.table) X (answers (Insert i) t)))) (seen_tables opening current tables st k locks ready);
+  next = λ opening current seen st k locks ready here.
+      may_write opening current seen st k locks ready here (under st k All S (unless_shape (shape (Insert i) (see st k)) (under st k (Table i.table) X (answers (Insert i) (see st k)))))
+      ∙ ap (λ t. under st k All S (unless_shape (shape (Insert i) t) (under st k (Table i.table) X (answers (Insert i) t)))) (seen_tables opening current seen st k locks ready);
 }
 
 pub of_update : (u : UpdateStmt) → is_built (Update u) ≡ true → IsOfTable (Update u) u.table X
 of_update u b = record {
   built = b;
-  next = λ opening current tables st k locks ready here.
-      may_write opening current tables st k locks ready here (under st k All S (unless_shape (shape (Update u) (see st k)) (under st k (Table u.table) X (answers (Update u) (see st k)))))
-      ∙ ap (λ t. under st k All S (unless_shape (shape (Update u) t) (under st k (Table u.table) X (answers (Update u) t)))) (seen_tables opening current tables st k locks ready);
+  next = λ opening current seen st k locks ready here.
+      may_write opening current seen st k locks ready here (under st k All S (unless_shape (shape (Update u) (see st k)) (under st k (Table u.table) X (answers (Update u) (see st k)))))
+      ∙ ap (λ t. under st k All S (unless_shape (shape (Update u) t) (under st k (Table u.table) X (answers (Update u) t)))) (seen_tables opening current seen st k locks ready);
 }
 
 pub of_select : (s : SelectStmt) → is_built (Select s) ≡ true → IsOfTable (Select s) s.table S
 of_select s b = record {
   built = b;
-  next = λ opening current tables st k locks ready here.
-      (let h = in_source opening current tables st k locks ready here in rw h refl)
-      ∙ ap (λ t. under st k All S (unless_shape (shape (Select s) t) (under st k (Table s.table) S (answers (Select s) t)))) (seen_tables opening current tables st k locks ready);
+  next = λ opening current seen st k locks ready here.
+      (let h = in_source opening current seen st k locks ready here in rw h refl)
+      ∙ ap (λ t. under st k All S (unless_shape (shape (Select s) t) (under st k (Table s.table) S (answers (Select s) t)))) (seen_tables opening current seen st k locks ready);
 }
 
-module _ (opening : Opening) (current : List ℕ) (tables : Tables) (snaps : List Snap) (here : current ≡ opening.source) (stmt : Stmt) (table : List ℕ) (mode : Mode) (of : IsOfTable stmt table mode) where
-  first_lock : (st : Plain) (k : ℕ) → Ready opening current tables st k [] → next_of st k (Some stmt) ≡ Wants All S
+module _ (opening : Opening) (current : List ℕ) (seen : Seen) (snaps : List Snap) (here : current ≡ opening.source) (stmt : Stmt) (table : List ℕ) (mode : Mode) (of : IsOfTable stmt table mode) where
+  first_lock : (st : Plain) (k : ℕ) → Ready opening current seen st k [] → next_of st k (Some stmt) ≡ Wants All S
   first_lock st k ready =
-      built st k stmt of.built ∙ of.next opening current tables st k [] ready here
-      ∙ wanted opening current tables st k [] ready All S (unless_shape (shape stmt tables) (under st k (Table table) mode (answers stmt tables))) refl
+      built st k stmt of.built ∙ of.next opening current seen st k [] ready here
+      ∙ wanted opening current seen st k [] ready All S (unless_shape (shape stmt seen.source) (under st k (Table table) mode (answers stmt seen.source))) refl
 
   -- its shape is refused
-  pub shape_comes : (m : Message) → shape stmt tables ≡ Some m → Comes opening current tables snaps stmt (UnderAll S (Msg m))
+  pub shape_comes : (m : Message) → shape stmt seen.source ≡ Some m → Comes opening current seen snaps stmt (UnderAll S (Msg m))
   shape_comes m e = (
     first_lock,
-    λ st k ready. inl (built st k stmt of.built ∙ of.next opening current tables st k ((All, S) ∷ []) ready here
-    ∙ had opening current tables st k ((All, S) ∷ []) ready All S (unless_shape (shape stmt tables) (under st k (Table table) mode (answers stmt tables))) refl
-    ∙ ap (λ o. unless_shape o (under st k (Table table) mode (answers stmt tables))) e),
+    λ st k ready. inl (built st k stmt of.built ∙ of.next opening current seen st k ((All, S) ∷ []) ready here
+    ∙ had opening current seen st k ((All, S) ∷ []) ready All S (unless_shape (shape stmt seen.source) (under st k (Table table) mode (answers stmt seen.source))) refl
+    ∙ ap (λ o. unless_shape o (under st k (Table table) mode (answers stmt seen.source))) e),
   )
 
-  second_lock : shape stmt tables ≡ None → (st : Plain) (k : ℕ) → Ready opening current tables st k ((All, S) ∷ []) → next_of st k (Some stmt) ≡ Wants (Table table) mode
+  second_lock : shape stmt seen.source ≡ None → (st : Plain) (k : ℕ) → Ready opening current seen st k ((All, S) ∷ []) → next_of st k (Some stmt) ≡ Wants (Table table) mode
   second_lock e st k ready =
-      built st k stmt of.built ∙ of.next opening current tables st k ((All, S) ∷ []) ready here
-      ∙ had opening current tables st k ((All, S) ∷ []) ready All S (unless_shape (shape stmt tables) (under st k (Table table) mode (answers stmt tables))) refl
-      ∙ ap (λ o. unless_shape o (under st k (Table table) mode (answers stmt tables))) e
-      ∙ wanted opening current tables st k ((All, S) ∷ []) ready (Table table) mode (answers stmt tables) refl
+      built st k stmt of.built ∙ of.next opening current seen st k ((All, S) ∷ []) ready here
+      ∙ had opening current seen st k ((All, S) ∷ []) ready All S (unless_shape (shape stmt seen.source) (under st k (Table table) mode (answers stmt seen.source))) refl
+      ∙ ap (λ o. unless_shape o (under st k (Table table) mode (answers stmt seen.source))) e
+      ∙ wanted opening current seen st k ((All, S) ∷ []) ready (Table table) mode (answers stmt seen.source) refl
 
-  third : shape stmt tables ≡ None → (st : Plain) (k : ℕ) → Ready opening current tables st k ((Table table, mode) ∷ (All, S) ∷ []) → next_of st k (Some stmt) ≡ answers stmt tables
+  third : shape stmt seen.source ≡ None → (st : Plain) (k : ℕ) → Ready opening current seen st k ((Table table, mode) ∷ (All, S) ∷ []) → next_of st k (Some stmt) ≡ answers stmt seen.source
   third e st k ready =
-      built st k stmt of.built ∙ of.next opening current tables st k ((Table table, mode) ∷ (All, S) ∷ []) ready here
-      ∙ had opening current tables st k ((Table table, mode) ∷ (All, S) ∷ []) ready All S (unless_shape (shape stmt tables) (under st k (Table table) mode (answers stmt tables))) (shared table mode)
-      ∙ ap (λ o. unless_shape o (under st k (Table table) mode (answers stmt tables))) e
-      ∙ had opening current tables st k ((Table table, mode) ∷ (All, S) ∷ []) ready (Table table) mode (answers stmt tables) (own_lock table mode ((All, S) ∷ []))
+      built st k stmt of.built ∙ of.next opening current seen st k ((Table table, mode) ∷ (All, S) ∷ []) ready here
+      ∙ had opening current seen st k ((Table table, mode) ∷ (All, S) ∷ []) ready All S (unless_shape (shape stmt seen.source) (under st k (Table table) mode (answers stmt seen.source))) (shared table mode)
+      ∙ ap (λ o. unless_shape o (under st k (Table table) mode (answers stmt seen.source))) e
+      ∙ had opening current seen st k ((Table table, mode) ∷ (All, S) ∷ []) ready (Table table) mode (answers stmt seen.source) (own_lock table mode ((All, S) ∷ []))
 
   -- its reply by its meaning
-  pub meaning_comes : shape stmt tables ≡ None → Comes opening current tables snaps stmt (UnderTable table mode (change_and_reply stmt tables).1)
+  pub meaning_comes : shape stmt seen.source ≡ None → Comes opening current seen snaps stmt (UnderTable table mode (change_and_reply stmt seen.source).1)
   meaning_comes e = (first_lock, second_lock e, λ st k ready. inl (third e st k ready))
 
-  pub reply_comes : (reply : Reply) → shape stmt tables ≡ None → (change_and_reply stmt tables).1 ≡ reply → Comes opening current tables snaps stmt (UnderTable table mode reply)
-  reply_comes reply e r = subst (λ x. Comes opening current tables snaps stmt (UnderTable table mode x)) r (meaning_comes e)
+  pub reply_comes : (reply : Reply) → shape stmt seen.source ≡ None → (change_and_reply stmt seen.source).1 ≡ reply → Comes opening current seen snaps stmt (UnderTable table mode reply)
+  reply_comes reply e r = subst (λ x. Comes opening current seen snaps stmt (UnderTable table mode x)) r (meaning_comes e)
 
   -- it would succeed, and finds no room
-  pub room_comes : (reply : Reply) → shape stmt tables ≡ None → may_grow stmt ≡ true → is_success reply ≡ true → (change_and_reply stmt tables).1 ≡ reply → Comes opening current tables snaps stmt (UnderTable table mode (Msg (plain 1105)))
+  pub room_comes : (reply : Reply) → shape stmt seen.source ≡ None → may_grow stmt ≡ true → is_success reply ≡ true → (change_and_reply stmt seen.source).1 ≡ reply → Comes opening current seen snaps stmt (UnderTable table mode (Msg (plain 1105)))
   room_comes reply e g s r = (first_lock, second_lock e, λ st k ready. inr (NoRoom stmt reply g s (third e st k ready ∙ ap Replies r)))
 
 -- CREATE TABLE IN THE SOURCE
 
-module _ (opening : Opening) (current : List ℕ) (tables : Tables) (snaps : List Snap) (here : current ≡ opening.source) (name : List ℕ) (cols : List Column) (b : is_built (CreateTable name cols) ≡ true) where
+module _ (opening : Opening) (current : List ℕ) (seen : Seen) (snaps : List Snap) (here : current ≡ opening.source) (name : List ℕ) (cols : List Column) (b : is_built (CreateTable name cols) ≡ true) where
   stmt_here : Stmt
   stmt_here = CreateTable name cols
 
-  past : (st : Plain) (k : ℕ) (locks : Locks) → Ready opening current tables st k locks → next_of st k (Some (CreateTable name cols)) ≡ cond (length cols == 0) (Replies (Msg (plain 60016))) (under st k All X (unless_shape (shape (CreateTable name cols) tables) (answers (CreateTable name cols) tables)))
+  past : (st : Plain) (k : ℕ) (locks : Locks) → Ready opening current seen st k locks → next_of st k (Some (CreateTable name cols)) ≡ cond (length cols == 0) (Replies (Msg (plain 60016))) (under st k All X (unless_shape (shape (CreateTable name cols) seen.source) (answers (CreateTable name cols) seen.source)))
   past st k locks ready =
       built st k (CreateTable name cols) b
-      ∙ may_write opening current tables st k locks ready here _
+      ∙ may_write opening current seen st k locks ready here _
       ∙ (let d = ready.depth in rw d refl)
-      ∙ ap (λ t. cond (length cols == 0) (Replies (Msg (plain 60016))) (under st k All X (unless_shape (shape (CreateTable name cols) t) (answers (CreateTable name cols) t)))) (seen_tables opening current tables st k locks ready)
+      ∙ ap (λ t. cond (length cols == 0) (Replies (Msg (plain 60016))) (under st k All X (unless_shape (shape (CreateTable name cols) t) (answers (CreateTable name cols) t)))) (seen_tables opening current seen st k locks ready)
 
-  pub bad_comes : (length cols == 0) ≡ true → Comes opening current tables snaps (CreateTable name cols) (AtOnce (Msg (plain 60016)))
+  pub bad_comes : (length cols == 0) ≡ true → Comes opening current seen snaps (CreateTable name cols) (AtOnce (Msg (plain 60016)))
   bad_comes e st k ready is = inl (past st k [] ready ∙ (rw e refl))
 
   module _ (good : (length cols == 0) ≡ false) where
-    lock_all : (st : Plain) (k : ℕ) → Ready opening current tables st k [] → next_of st k (Some (CreateTable name cols)) ≡ Wants All X
-    lock_all st k ready = past st k [] ready ∙ (rw good (wanted opening current tables st k [] ready All X _ refl))
+    lock_all : (st : Plain) (k : ℕ) → Ready opening current seen st k [] → next_of st k (Some (CreateTable name cols)) ≡ Wants All X
+    lock_all st k ready = past st k [] ready ∙ (rw good (wanted opening current seen st k [] ready All X _ refl))
 
-    locked_all : (st : Plain) (k : ℕ) → Ready opening current tables st k ((All, X) ∷ []) → next_of st k (Some (CreateTable name cols)) ≡ unless_shape (shape (CreateTable name cols) tables) (answers (CreateTable name cols) tables)
-    locked_all st k ready = past st k ((All, X) ∷ []) ready ∙ (rw good (had opening current tables st k ((All, X) ∷ []) ready All X _ refl))
+    locked_all : (st : Plain) (k : ℕ) → Ready opening current seen st k ((All, X) ∷ []) → next_of st k (Some (CreateTable name cols)) ≡ unless_shape (shape (CreateTable name cols) seen.source) (answers (CreateTable name cols) seen.source)
+    locked_all st k ready = past st k ((All, X) ∷ []) ready ∙ (rw good (had opening current seen st k ((All, X) ∷ []) ready All X _ refl))
 
-    pub taken_comes : (m : Message) → shape (CreateTable name cols) tables ≡ Some m → Comes opening current tables snaps (CreateTable name cols) (UnderAll X (Msg m))
+    pub taken_comes : (m : Message) → shape (CreateTable name cols) seen.source ≡ Some m → Comes opening current seen snaps (CreateTable name cols) (UnderAll X (Msg m))
     taken_comes m e = (lock_all, λ st k ready. inl (locked_all st k ready ∙ (rw e refl)))
 
-    pub made_comes : shape (CreateTable name cols) tables ≡ None → Comes opening current tables snaps (CreateTable name cols) (UnderAll X Ok)
+    pub made_comes : shape (CreateTable name cols) seen.source ≡ None → Comes opening current seen snaps (CreateTable name cols) (UnderAll X Ok)
     made_comes e = (lock_all, λ st k ready. inl (locked_all st k ready ∙ (rw e refl)))
 
-    pub full_comes : shape (CreateTable name cols) tables ≡ None → Comes opening current tables snaps (CreateTable name cols) (UnderAll X (Msg (plain 1105)))
+    pub full_comes : shape (CreateTable name cols) seen.source ≡ None → Comes opening current seen snaps (CreateTable name cols) (UnderAll X (Msg (plain 1105)))
     full_comes e = (lock_all, λ st k ready. inr (NoRoom (CreateTable name cols) Ok refl refl (locked_all st k ready ∙ (rw e refl))))

@@ -4,3 +4,4 @@ mod SeatLemmas
 mod SafeLemmas
 mod Deciding
 mod Placed
+mod AtOnce

@@ -23,7 +23,7 @@ find_none p [] h = refl
 find_none p (x ∷ xs) h = let n = neither (p x) (list_any p xs) h in let e = n.0 in rw e (find_none p xs n.1)
 
 module _ (cat : Catalog) (name : List ℕ) where
-  abbrev snaps : List plain.Snap
+  abbrev pub snaps : List plain.Snap
   snaps = map plainly cat.snaps
 
   -- no snapshot has the name

@@ -19,6 +19,7 @@ use Rattle.plain_model.specs.declared.event.Event.TheVariants.{Turned, Said}
 use Rattle.plain_model.specs.declared.reply.Reply.{Reply}
 use Rattle.plain_model.specs.Tables.{Tables}
 use Rattle.plain_model.specs.Journal.{Opening, Entry, source}
+use Rattle.plain_model.specs.Journal as journal
 use Rattle.plain_model.specs.State as plain
 use Rattle.plain_model.specs.State.{Plain, Session, fresh_session, session, committed, copy, master}
 use Rattle.plain_model.specs.Legal.{LegalFrom, Legal, end, end_from}
@@ -38,7 +39,7 @@ use Rattle.engine_core.specs.Entering.{Kept}
 use Rattle.engine_core.specs.Pushing.{is_suspect, plainly, snaps_of, sound, name_of, faults_of, Alike, IsTurn, StaysOrTurns}
 use Rattle.engine_core.specs.Ready.{Comes, reply_of, locks_of}
 use Rattle.engine_core.specs.Stepping.{number, idle, mid, first_of, lock_events, statement_events, tables_after, current_after, IsPlain, Around, is_lost, Moves}
-use Rattle.engine_core.specs.Safe.{Run, Disk, state, seat_at, script_at, InStep, AreSeated, IsSeated, marks_of, AreInts, AreTables, AreCopies, sparse_names, AreOut, is_turn, AreBlamed, dues, HasRoom, Safe}
+use Rattle.engine_core.specs.Safe.{Run, Disk, state, seen_by, seat_at, script_at, InStep, AreSeated, IsSeated, marks_of, AreInts, AreTables, AreCopies, sparse_names, AreOut, is_turn, AreBlamed, dues, HasRoom, Safe}
 use Rattle.engine_core.specs.Doing.{Leaves, Does}
 use Rattle.engine_core.proofs.PushLemmas.{bytes_ne, still_lost}
 use Rattle.engine_core.proofs.Stepping.{Effects, effects_of, leads_all, legal_all, legal_append, end_append}
@@ -96,7 +97,7 @@ events_few k n b (UnderTable name mode r) es = simp length-append (omega arith)
 
 module _ (e : Run) (safe : Safe e) (i : ℕ) (lt : i < length e.scripts) (here : (seat_at e i).gone ≡ false) (stmt : Stmt) (says : slice_get (script_at e i) (seat_at e i).said ≡ Some stmt)
     (answer : Answer) (simple : IsPlain stmt (reply_of answer)) (v : Shown) (kept : Kept) (does : Does (i + 1) ((seat_at e i).said + 1) answer e.kept kept e.shown v)
-    (comes : IsTrue e.disk.told → Comes e.opening (seat_at e i).current (committed (state e)) (snaps_of v) stmt answer)
+    (comes : IsTrue e.disk.told → Comes e.opening (seat_at e i).current (seen_by (state e)) (snaps_of v) stmt answer)
     (tables : AreTables (data_pages v) (img v) (tables_after stmt (reply_of answer) (committed (state e)))) (ints : AreInts (tables_after stmt (reply_of answer) (committed (state e)))) where
   abbrev said : ℕ
   said = (seat_at e i).said
@@ -160,6 +161,9 @@ module _ (e : Run) (safe : Safe e) (i : ℕ) (lt : i < length e.scripts) (here :
   over : source e.opening (state e).journal ≡ committed (state e)
   over = ap (λ (o : Opening). source o (state e).journal) (sym safe.machine.opened)
 
+  copied : (snap : List ℕ) → journal.copy e.opening (state e).journal snap ≡ copy (state e) snap
+  copied snap = ap (λ (o : Opening). journal.copy o (state e).journal snap) (sym safe.machine.opened)
+
   names_old : (s : SnapNo) → IsOpen e.shown s → name_of e.shown s ≢ e.opening.source
   names_old s has = (safe.machine.apart s has).0
 
@@ -178,7 +182,7 @@ module _ (e : Run) (safe : Safe e) (i : ℕ) (lt : i < length e.scripts) (here :
   legal_here : IsTrue e.disk.told → Legal e.opening e.scripts kept.events
   legal_here told = subst (λ (es : List Event). Legal e.opening e.scripts es) (sym same_events)
       (legal_append (plain.start e.opening e.scripts) e.kept.events moved (safe.machine.legal told)
-      (legal_all e.opening (state e) (i + 1) round said current false seated_here.since stmt here_is says_here (snaps_of v) does.turned moves_here answer (committed (state e)) lost_old (apart_names v e.opening.source names_new) over
+      (legal_all e.opening (state e) (i + 1) round said current false seated_here.since stmt here_is says_here (snaps_of v) does.turned moves_here answer (seen_by (state e)) lost_old (apart_names v e.opening.source names_new) over copied
         (let o = seated_here.old in let m = at_moment in omega (arith, o, m)) (comes told)))
 
   committed_is : committed (state next) ≡ tables_after stmt (reply_of answer) (committed (state e))

@@ -23,7 +23,7 @@ use Rattle.plain_model.specs.Holding.{holder_from, held, is_in_the_way}
 use Rattle.plain_model.specs.Next.{Wants, next_of}
 use Rattle.plain_model.specs.Free.{IsFree}
 use Rattle.plain_model.specs.Legal.{LegalFrom, MayCome, end_from, after, effect, answered, counted, with_changes, with_session, without_restoring}
-use Rattle.engine_core.specs.Ready.{Locks, Ready, Allowed, Comes, locks_of, reply_of}
+use Rattle.engine_core.specs.Ready.{Locks, Seen, Ready, Allowed, Comes, locks_of, reply_of}
 use Rattle.engine_core.specs.declared.answer.Answer.{Answer}
 use Rattle.engine_core.specs.declared.answer.Answer.TheVariants.{AtOnce, UnderAll, UnderTable}
 use Rattle.engine_core.specs.Stepping.{number, idle, busy, mid, lock_events, first_of, tables_after, current_after, IsPlain, Around, is_lost, Moves, statement_events}
@@ -202,9 +202,9 @@ module _ (opening : Opening) (st : Plain) (k : ℕ) (around : Around opening st 
         | inr ne ↦ ap (λ (t : Session). t.making) (get_or-set_other st.sessions (k - 1) i s fresh_session ne) ∙ (around.others i (λ e. ne (omega (arith, e)))).1
       ]
 
-  pub ready_mid : (said : ℕ) (current : List ℕ) (gone : Bool) (since : ℕ) (locks : Locks) (first : Option ℕ) (j : List Entry) (ss : List Snap) (m : ℕ) (tables : Tables) →
-      is_lost ss opening.source ≡ false → source opening j ≡ tables → Ready opening current tables (mid st k (busy said current gone since locks first None) j ss m) k locks
-  ready_mid said current gone since locks first j ss m tables lost t =
+  pub ready_mid : (said : ℕ) (current : List ℕ) (gone : Bool) (since : ℕ) (locks : Locks) (first : Option ℕ) (j : List Entry) (ss : List Snap) (m : ℕ) (seen : Seen) →
+      is_lost ss opening.source ≡ false → source opening j ≡ seen.source → ((snap : List ℕ) → copy opening j snap ≡ seen.copies snap) → Ready opening current seen (mid st k (busy said current gone since locks first None) j ss m) k locks
+  ready_mid said current gone since locks first j ss m seen lost t c =
       let s : Session = busy said current gone since locks first None in
       let is : session (mid st k s j ss m) k ≡ s = session_mid st k around.there s j ss m in
       record {
@@ -217,6 +217,7 @@ module _ (opening : Opening) (st : Plain) (k : ℕ) (around : Around opening st 
         unmade = unmade s j ss m refl;
         quiet = quiet s j ss m;
         tables_are = ap (λ (o : Opening). source o j) around.opened ∙ t;
+        copies_are = λ snap. ap (λ (o : Opening). copy o j snap) around.opened ∙ c snap;
         opened = around.opened;
         apart = lost;
         settled = around.settled;
@@ -299,9 +300,9 @@ module _ (opening : Opening) (st : Plain) (k : ℕ) (around : Around opening st 
           ∙ replied ss answer total plain
           ∙ ap (λ (n : ℕ). mid st k (idle (said + 1) (current_after stmt (reply_of answer) current) gone n) (journal_after plain) ss n) counted_all
 
-      module _ (tables : Tables) (lost : is_lost st.snaps opening.source ≡ false) (lost' : is_lost ss opening.source ≡ false) (over : source opening st.journal ≡ tables) (old : since ≤ st.moment) where
-        ready_now : (locks : Locks) (first : Option ℕ) (m : ℕ) → Ready opening current tables (mid st k (busy said current gone since locks first None) st.journal st.snaps m) k locks
-        ready_now locks first m = ready_mid said current gone since locks first st.journal st.snaps m tables lost over
+      module _ (seen : Seen) (lost : is_lost st.snaps opening.source ≡ false) (lost' : is_lost ss opening.source ≡ false) (over : source opening st.journal ≡ seen.source) (copied : (snap : List ℕ) → copy opening st.journal snap ≡ seen.copies snap) (old : since ≤ st.moment) where
+        ready_now : (locks : Locks) (first : Option ℕ) (m : ℕ) → Ready opening current seen (mid st k (busy said current gone since locks first None) st.journal st.snaps m) k locks
+        ready_now locks first m = ready_mid said current gone since locks first st.journal st.snaps m seen lost over copied
 
         wants : (locks : Locks) (first : Option ℕ) (m : ℕ) (name : LockName) (mode : Mode) → next_of (mid st k (busy said current gone since locks first None) st.journal st.snaps m) k (Some stmt) ≡ Wants name mode →
             MayCome (mid st k (busy said current gone since locks first None) st.journal st.snaps m) (Locked (number k) name mode)
@@ -309,7 +310,7 @@ module _ (opening : Opening) (st : Plain) (k : ℕ) (around : Around opening st 
             let s : Session = busy said current gone since locks first None in
             (session_there st k around.there s st.journal st.snaps m, ap (next_of (mid st k s st.journal st.snaps m) k) (stmt_mid s st.journal st.snaps m ∙ says) ∙ e)
 
-        locks_legal : (a : Answer) → Comes opening current tables ss stmt a → LegalFrom st (lock_events k a)
+        locks_legal : (a : Answer) → Comes opening current seen ss stmt a → LegalFrom st (lock_events k a)
         locks_legal (AtOnce r) comes = tt
         locks_legal (UnderAll mode r) comes =
             subst (λ (x : Plain). LegalFrom x (lock_events k (UnderAll mode r))) (sym begin) (wants [] None st.moment All mode (comes.0 (mid st k (busy said current gone since [] None None) st.journal st.snaps st.moment) k (ready_now [] None st.moment)), tt)
@@ -322,13 +323,13 @@ module _ (opening : Opening) (st : Plain) (k : ℕ) (around : Around opening st 
               (subst (λ (x : Plain). MayCome x (Locked (number k) (Table name) mode)) (sym (after_lock st k around.there (busy said current gone since [] None None) st.journal st.snaps st.moment All S)) second, tt),
             )
 
-        reply_allowed : (a : Answer) (m : ℕ) → Comes opening current tables ss stmt a → Allowed (mid st k (busy said current gone since (locks_of a) (first_of a st.moment) None) st.journal ss m) k stmt (reply_of a)
-        reply_allowed (AtOnce r) m comes = comes (mid st k (busy said current gone since [] None None) st.journal ss m) k (ready_mid said current gone since [] None st.journal ss m tables lost' over) refl
-        reply_allowed (UnderAll mode r) m comes = comes.1 (mid st k (busy said current gone since ((All, mode) ∷ []) (Some st.moment) None) st.journal ss m) k (ready_mid said current gone since ((All, mode) ∷ []) (Some st.moment) st.journal ss m tables lost' over)
-        reply_allowed (UnderTable name mode r) m comes = comes.2 (mid st k (busy said current gone since ((Table name, mode) ∷ (All, S) ∷ []) (Some st.moment) None) st.journal ss m) k (ready_mid said current gone since ((Table name, mode) ∷ (All, S) ∷ []) (Some st.moment) st.journal ss m tables lost' over)
+        reply_allowed : (a : Answer) (m : ℕ) → Comes opening current seen ss stmt a → Allowed (mid st k (busy said current gone since (locks_of a) (first_of a st.moment) None) st.journal ss m) k stmt (reply_of a)
+        reply_allowed (AtOnce r) m comes = comes (mid st k (busy said current gone since [] None None) st.journal ss m) k (ready_mid said current gone since [] None st.journal ss m seen lost' over copied) refl
+        reply_allowed (UnderAll mode r) m comes = comes.1 (mid st k (busy said current gone since ((All, mode) ∷ []) (Some st.moment) None) st.journal ss m) k (ready_mid said current gone since ((All, mode) ∷ []) (Some st.moment) st.journal ss m seen lost' over copied)
+        reply_allowed (UnderTable name mode r) m comes = comes.2 (mid st k (busy said current gone since ((Table name, mode) ∷ (All, S) ∷ []) (Some st.moment) None) st.journal ss m) k (ready_mid said current gone since ((Table name, mode) ∷ (All, S) ∷ []) (Some st.moment) st.journal ss m seen lost' over copied)
 
         -- all events may come
-        pub legal_all : Comes opening current tables ss stmt answer → LegalFrom st all_events
+        pub legal_all : Comes opening current seen ss stmt answer → LegalFrom st all_events
         legal_all comes =
             let rest : List Event = turned ++ Said (number k) (said + 1) st.moment (reply_of answer) ∷ [] in
             let last : MayCome (before_reply ss answer total) (Said (number k) (said + 1) st.moment (reply_of answer)) = may_reply ss answer total old (omega arith) (reply_allowed answer total comes) in

@@ -8,7 +8,7 @@ use Rattle.plain_model.specs.declared.event.LockName.TheVariants.{All, Table}
 use Rattle.plain_model.specs.declared.reply.Reply.{Reply}
 use Rattle.plain_model.specs.Tables.{Tables}
 use Rattle.plain_model.specs.Journal.{Opening}
-use Rattle.plain_model.specs.State.{Plain, Snap, session, is_session, is_suspect, is_being_made, committed}
+use Rattle.plain_model.specs.State.{Plain, Snap, session, is_session, is_suspect, is_being_made, committed, copy}
 use Rattle.plain_model.specs.Holding.{held}
 use Rattle.plain_model.specs.Next.{Replies, Wants, next_of}
 use Rattle.plain_model.specs.Free.{IsFree}
@@ -18,9 +18,14 @@ use Rattle.engine_core.specs.declared.answer.Answer.TheVariants.{AtOnce, UnderAl
 abbrev pub Locks : Type 0
 Locks = List (LockName × Mode)
 
--- Session k is in the midst of a statement with these locks, outside a transaction, over these tables; nobody is in its
+-- the source's committed tables, and the copy of each snapshot
+pub record Seen : Type 0 where
+  pub source : Tables
+  pub copies : List ℕ → Tables
+
+-- Session k is in the midst of a statement with these locks, outside a transaction, over these tables and copies; nobody is in its
 -- way, and no snapshot has the source's name.
-pub record Ready (opening : Opening) (current : List ℕ) (tables : Tables) (st : Plain) (k : ℕ) (locks : Locks) : Type 0 where
+pub record Ready (opening : Opening) (current : List ℕ) (seen : Seen) (st : Plain) (k : ℕ) (locks : Locks) : Type 0 where
   pub there : IsTrue (is_session st k)
   pub current_is : (session st k).current ≡ current
   pub depth : (session st k).depth ≡ 0
@@ -29,7 +34,8 @@ pub record Ready (opening : Opening) (current : List ℕ) (tables : Tables) (st 
   pub locks_are : (session st k).locks ≡ locks
   pub unmade : (d : List ℕ) → is_being_made st d ≡ false
   pub quiet : (name : LockName) (mode : Mode) → held st k name mode ≡ None
-  pub tables_are : committed st ≡ tables
+  pub tables_are : committed st ≡ seen.source
+  pub copies_are : (snap : List ℕ) → copy st snap ≡ seen.copies snap
   pub opened : st.opening ≡ opening
   pub apart : is_suspect st opening.source ≡ false
   pub settled : st.restoring ≡ None
@@ -39,15 +45,15 @@ abbrev pub Allowed : Plain → ℕ → Stmt → Reply → Type 0
 Allowed st k stmt reply = (next_of st k (Some stmt) ≡ Replies reply) ⊎ IsFree st k (Some stmt) reply
 
 -- the answer is what comes: at once where the snapshots are these, or once its locks are held
-abbrev pub Comes : Opening → List ℕ → Tables → List Snap → Stmt → Answer → Type 0
-Comes opening current tables snaps stmt (AtOnce reply) = (st : Plain) (k : ℕ) → Ready opening current tables st k [] → st.snaps ≡ snaps → Allowed st k stmt reply
-Comes opening current tables snaps stmt (UnderAll mode reply) =
-    ((st : Plain) (k : ℕ) → Ready opening current tables st k [] → next_of st k (Some stmt) ≡ Wants All mode)
-    × ((st : Plain) (k : ℕ) → Ready opening current tables st k ((All, mode) ∷ []) → Allowed st k stmt reply)
-Comes opening current tables snaps stmt (UnderTable name mode reply) =
-    ((st : Plain) (k : ℕ) → Ready opening current tables st k [] → next_of st k (Some stmt) ≡ Wants All S)
-    × ((st : Plain) (k : ℕ) → Ready opening current tables st k ((All, S) ∷ []) → next_of st k (Some stmt) ≡ Wants (Table name) mode)
-    × ((st : Plain) (k : ℕ) → Ready opening current tables st k ((Table name, mode) ∷ (All, S) ∷ []) → Allowed st k stmt reply)
+abbrev pub Comes : Opening → List ℕ → Seen → List Snap → Stmt → Answer → Type 0
+Comes opening current seen snaps stmt (AtOnce reply) = (st : Plain) (k : ℕ) → Ready opening current seen st k [] → st.snaps ≡ snaps → Allowed st k stmt reply
+Comes opening current seen snaps stmt (UnderAll mode reply) =
+    ((st : Plain) (k : ℕ) → Ready opening current seen st k [] → next_of st k (Some stmt) ≡ Wants All mode)
+    × ((st : Plain) (k : ℕ) → Ready opening current seen st k ((All, mode) ∷ []) → Allowed st k stmt reply)
+Comes opening current seen snaps stmt (UnderTable name mode reply) =
+    ((st : Plain) (k : ℕ) → Ready opening current seen st k [] → next_of st k (Some stmt) ≡ Wants All S)
+    × ((st : Plain) (k : ℕ) → Ready opening current seen st k ((All, S) ∷ []) → next_of st k (Some stmt) ≡ Wants (Table name) mode)
+    × ((st : Plain) (k : ℕ) → Ready opening current seen st k ((Table name, mode) ∷ (All, S) ∷ []) → Allowed st k stmt reply)
 
 abbrev pub reply_of : Answer → Reply
 reply_of (AtOnce reply) = reply

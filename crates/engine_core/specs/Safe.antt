@@ -29,6 +29,7 @@ use Rattle.table_pages.specs.Carried.{data_pages, decoded}
 use Rattle.engine_core.specs.declared.seat.Seat.{Seat}
 use Rattle.engine_core.specs.Entering.{Kept}
 use Rattle.engine_core.specs.Pushing.{snaps_of, sound, name_of, faults_of}
+use Rattle.engine_core.specs.Ready.{Seen}
 use Rattle.engine_core.specs.Stepping.{idle}
 
 -- the volume: whether it tells, what has each name's place, which names are out, and its two counts of faults
@@ -51,6 +52,10 @@ pub record Run : Type 0 where
 -- the plain machine's state after the history
 abbrev pub state : Run → Plain
 state e = end e.opening e.scripts e.kept.events
+
+-- the tables and copies of a state
+abbrev pub seen_by : Plain → Seen
+seen_by st = record { source = committed st; copies = copy st }
 
 abbrev pub no_seat : Seat
 no_seat = record { current = []; said = 0; gone = false }
