@@ -1,0 +1,9 @@
+pub mod CollectLemmas
+mod OrderLemmas
+mod NameLemmas
+mod NumberLemmas
+mod StoredLemmas
+mod KeyLemmas
+mod WriteLemmas
+mod RowLemmas
+mod HeaderLemmas
