@@ -1,7 +1,7 @@
 -- A header that was written is read again, and what is read is a name and a good definition of columns.
 use Rattle.std.proofs.Common.{◌≡◌, ℕ, zero, suc, ◌+◌, ◌-◌, ◌*◌, ◌/◌, ◌%◌, ◌^◌, ◌<◌, ◌≤◌, Bool, true, false, cond, ◌&&◌, ◌==◌, List, [], ◌∷◌, ◌++◌, length, take, drop, refl, ap, sym, ◌∙◌, subst, arith, eq-eqb, length-append, append_assoc, lit<}
-use Rattle.std.specs.Prelude.{Option, Some, None, Ok, Err, nat_lt, nat_le}
-use Rattle.std.specs.List.{list_all, flat_map, AllByRecursion}
+use Rattle.std.specs.Prelude.{Option, Some, None, Ok, Err, nat_lt, nat_le, map, filter}
+use Rattle.std.specs.List.{list_all, flat_map, range_with_len}
 use Rattle.std.proofs.lemmas.Bool.{and_parts, le-ltb, cases_Bool}
 use Rattle.std.proofs.lemmas.Bool.Decides.{nat_tests}
 use Rattle.std.proofs.lemmas.List.{append-nil, take_at, drop_at}
@@ -11,9 +11,9 @@ use Rattle.page_base.specs.declared.column.ColType.{ColType}
 use Rattle.page_base.specs.declared.column.ColType.TheVariants as types
 use Rattle.page_base.specs.Name.{IsLowName}
 use Rattle.page_base.specs.Reading.{Read, ◌>>=◌, times_at}
-use Rattle.page_base.proofs.FormatLemmas.{bind_ok}
+use Rattle.page_base.proofs.FormatLemmas.{bind_ok, read_is}
 use Rattle.page_base.proofs.TimesLoop.{with_front}
-use Rattle.plain_model.specs.Sound.{is_type, is_column, is_definition, are_distinct}
+use Rattle.plain_model.specs.Sound.{is_type, is_column, is_definition, are_distinct, has_place}
 use Rattle.table_pages.specs.Numbers.{number, number_in}
 use Rattle.table_pages.specs.Headers.{sized, type_number, type_length, key_number, column_bytes, header, is_low_name, low_name, given, byte_at, name_at, number_at, type_of, type_at, key_of_number, key_at, column_at, columns_at, header_at, whole, defined, header_of}
 use Rattle.table_pages.specs.Names.{IsKeptColumn, AreKept}
@@ -61,7 +61,9 @@ header_is bytes name cols e =
     }
   where
     same_parts : (n : List ℕ) (cs : List Column) (rest : List ℕ) → ◌≡◌ {A = Read head} (Ok ((n, cs), rest)) (Ok ((name, cols), [])) → (n ≡ name) × (cs ≡ cols) × (rest ≡ [])
-    same_parts n cs rest e = (cc, cc, cc)
+    same_parts n cs rest e =
+        let both = read_is (n, cs) (name, cols) rest [] e in
+        (ap (λ (h : head). h.0) both.0, ap (λ (h : head). h.1) both.0, both.1)
 
 -- READING STOPS
 
@@ -186,10 +188,13 @@ columns_again (c ∷ cols) rest kept known =
 -- the columns of a good definition
 pub known_columns : (cols : List Column) → is_definition cols ≡ true → (length cols ≤ 64) × (list_all is_column cols ≡ true)
 known_columns cols h =
-    let few = and_parts _ _ h in
-    let apart = and_parts _ _ few.1 in
-    let known = and_parts _ _ apart.1 in
-    (grind (arith, nat_tests, few.0), known.0)
+    let size : ℕ = length (filter (λ (c : Column). nat_le 1 c.key) cols) in
+    let keys : Bool = nat_le 1 size && (nat_le size 16 && list_all (has_place cols) (range_with_len 1 size)) in
+    let few = and_parts (nat_le (length cols) 64) (are_distinct (map (λ (c : Column). c.name) cols) && (list_all is_column cols && keys)) h in
+    let apart = and_parts (are_distinct (map (λ (c : Column). c.name) cols)) (list_all is_column cols && keys) few.1 in
+    let known = and_parts (list_all is_column cols) keys apart.1 in
+    let small : nat_le (length cols) 64 ≡ true = few.0 in
+    (grind (arith, nat_tests), known.0)
 
 -- a name and columns that are written
 pub header_again : (name : List ℕ) (cols : List Column) → IsLowName name → AreKept cols → is_definition cols ≡ true → header_of (header name cols) ≡ Some (name, cols)

@@ -87,8 +87,8 @@ ints_in-values (Text bs ∷ row) h fits = absurd (let wrong : false ≡ true = h
 pub length-row_bytes : (row : List Value) → list_all is_int_value row ≡ true → length (row_bytes row) ≡ null_bytes (length row) + 4 * length row
 unfolding row_bytes
 length-row_bytes row h =
-    let zeros : length (replicate (null_bytes (length row)) 0) ≡ null_bytes (length row) = length-replicate (null_bytes (length row)) 0 in
-    omega (arith, length-append (replicate (null_bytes (length row)) 0) (flat_map value_bytes row), length-values row h)
+    let k : ℕ = null_bytes (length row) in
+    length-append (replicate k 0) (flat_map value_bytes row) ∙ (λ t. length-replicate {A = ℕ} k 0 t + length-values row h t)
 
 zeros_only : (n : ℕ) → list_all (λ (b : ℕ). b == 0) (replicate n 0) ≡ true
 zeros_only zero = refl
@@ -102,7 +102,7 @@ row_of-row_bytes cols row ints values long fits =
     let bytes : List ℕ = replicate (null_bytes (length row)) 0 ++ flat_map value_bytes row in
     let same : bytes ≡ replicate k 0 ++ flat_map value_bytes row = ap (λ (m : ℕ). replicate (null_bytes m) 0 ++ flat_map value_bytes row) long in
     let zeros : length (replicate k 0) ≡ k = length-replicate k 0 in
-    let sized : length bytes ≡ k + 4 * n = omega (arith, ap length same, length-append (replicate k 0) (flat_map value_bytes row), length-values row values) in
+    let sized : length bytes ≡ k + 4 * n = ap length same ∙ length-append (replicate k 0) (flat_map value_bytes row) ∙ (λ t. zeros t + (length-values row values ∙ ap (λ (m : ℕ). 4 * m) long) t) in
     let sized_test : (length bytes == k + 4 * n) ≡ true = eq-eqb (length bytes) (k + 4 * n) sized in
     let front : take k bytes ≡ replicate k 0 = ap (take k) same ∙ take_at (replicate k 0) (flat_map value_bytes row) k zeros in
     let front_test : list_all (λ (b : ℕ). b == 0) (take k bytes) ≡ true = ap (list_all (λ (b : ℕ). b == 0)) front ∙ zeros_only k in

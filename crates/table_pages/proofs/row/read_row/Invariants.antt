@@ -1,12 +1,6 @@
-use Rattle.std.proofs.Common.{◌≡◌, ◌<◌, ◌≤◌, ◌+◌, ◌*◌, ◌++◌, ℕ, ℤ, List, length, Some, IfOk, OnOk, slice_index_or, ◌-◌, pos, ◌+ℤ◌, ◌-ℤ◌, ◌*ℤ◌, ◌≤ℤ◌, ◌<ℤ◌, FitsSigned, to_z, of_z}
-use Rattle.std.specs.List.{flat_map}
-use Rattle.page_base.specs.declared.column.Column.{Column}
-use Rattle.page_base.specs.declared.value.Value.{Value}
-use Rattle.page_base.specs.declared.value.Value.TheVariants.{Int, Null}
-use Rattle.table_pages.specs.Numbers.{int, int_in}
-use Rattle.table_pages.specs.Rows.{null_bytes, value_bytes, row_bytes, ints_in, row_of}
-use Rattle.table_pages.specs.Fitting.{FitsInt, FitInts}
+use Rattle.std.proofs.Common.{◌≡◌, ◌*◌, length, take}
+use Rattle.table_pages.specs.Rows.{ints_in}
 use Rattle.table_pages.proofs.row.read_row.Given as goal
 
-abbrev pub invariant-loop : goal.invariant-loop
-invariant-loop l = ?
+abbrev pub invariant-loop-i : goal.invariant-loop-i
+invariant-loop-i l = length l.ints ≡ 4 * length l.cols → l.row ≡ take l.i (ints_in (length l.cols) l.ints)
