@@ -7,3 +7,5 @@ mod KeyLemmas
 mod WriteLemmas
 mod RowLemmas
 mod HeaderLemmas
+pub mod PageLemmas
+pub mod HeldLemmas

@@ -2,12 +2,16 @@
 #![tactic(auto)]
 
 mod edit;
+mod finding;
 mod header;
 mod key;
+mod page;
 mod reader;
 mod row;
 mod stored;
 
 pub use edit::{Edit, EditList};
+pub use finding::{data_pages, find, place};
 pub use key::key_of;
+pub use page::{columns, has_key, is_blank, is_named, read_table};
 pub use stored::StoredTable;
