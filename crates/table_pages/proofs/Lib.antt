@@ -9,3 +9,5 @@ mod RowLemmas
 mod HeaderLemmas
 pub mod PageLemmas
 pub mod HeldLemmas
+pub mod CallerLemmas
+mod FoundLemmas

@@ -1,24 +1,20 @@
-use Rattle.std.proofs.Common.{rules, ◌≡◌, ◌<◌, None, Some, IfSome, IfNone, MatchOption, ℕ, ◌+◌, ◌-◌, ◌*◌, ◌≤◌, length, ◌/◌, ◌%◌, Bool, true, false, nat_eq, nat_lt, List, [], ◌∷◌, ◌++◌, slice_index_or, slice_set, bit_and, bit_or, Fits, w8, w32, w64, Bor, MutBor}
-use Rattle.std.specs.FinMap as finite
-use Rattle.plain_model.specs.Tables.{Table, Tables}
-use Rattle.snap_pages.specs.Shown.{img}
-use Rattle.snap_pages.specs.Slots.{slots_of}
-use Rattle.table_pages.specs.Layout.{place, IsPacked}
-use Rattle.table_pages.specs.Carried.{data_pages, decoded, Holds, IsFull, IsFirstBlank}
+use Rattle.std.proofs.Common.{◌<◌, arith}
+use borrow.Author.Count.{below_more}
+use Rattle.table_pages.proofs.FoundLemmas.{is_blank, isnt_blank}
 use Rattle.table_pages.proofs.finding.blank_page.Goals as goal
 
--- src/finding.rt:70:5
 pub loop-i-init : goal.loop-i-init
-loop-i-init g c = ?
+loop-i-init g c = λ k lt. absurd (omega arith)
 
--- src/finding.rt:72:13
 pub returns-then-is_blank : goal.returns-then-is_blank
-returns-then-is_blank g c = ?
+returns-then-is_blank g c = record {
+  within = let lt = c.loop-i-test.true in let n = c.data_pages-i-end.ensures in omega arith;
+  blank = is_blank c.args.pages.now c.loop-i.i c.image.result.now c.image.ensures c.is_blank.result c.is_blank.ensures c.if-is_blank.true;
+  first = c.loop-i.invariant;
+}
 
--- src/finding.rt:70:5
 pub loop-i-preserved : goal.loop-i-preserved
-loop-i-preserved g c = ?
+loop-i-preserved g c = below_more _ _ c.loop-i.invariant (isnt_blank c.args.pages.now c.loop-i.i c.image.result.now c.image.ensures c.is_blank.result c.is_blank.ensures c.if-is_blank.false)
 
--- src/finding.rt:66:1
 pub returns : goal.returns
-returns g c = ?
+returns g c = λ k lt. c.loop-i.invariant k (let le = c.loop-i-test.false in let n = c.data_pages-i-end.ensures in omega arith)

@@ -1,28 +1,37 @@
-use Rattle.std.proofs.Common.{rules, ◌≡◌, ◌<◌, None, Some, IfSome, IfNone, MatchOption, ℕ, ◌+◌, ◌-◌, ◌*◌, ◌≤◌, length, ◌/◌, ◌%◌, Bool, true, false, nat_eq, nat_lt, List, [], ◌∷◌, ◌++◌, slice_index_or, slice_set, bit_and, bit_or, Fits, w8, w32, w64, Bor, MutBor}
-use Rattle.std.specs.FinMap as finite
-use Rattle.plain_model.specs.Tables.{Table, Tables}
+use Rattle.std.proofs.Common.{◌<◌, true, sym, ◌∙◌, arith}
 use Rattle.snap_pages.specs.Shown.{img}
 use Rattle.snap_pages.specs.Slots.{slots_of}
-use Rattle.table_pages.specs.Layout.{place, IsPacked}
-use Rattle.table_pages.specs.Carried.{data_pages, decoded, Holds, IsFull, IsFirstBlank}
+use Rattle.table_pages.specs.Carried.{data_pages}
+use Rattle.table_pages.proofs.CallerLemmas.{passed_none, passed_more, passed_all, passed_to_blank, found_named}
+use Rattle.table_pages.proofs.FoundLemmas.{is_blank, isnt_blank, named, is_other}
 use Rattle.table_pages.proofs.finding.find.Goals as goal
 
--- src/finding.rt:53:5
 pub loop-i-init : goal.loop-i-init
-loop-i-init g c = ?
+loop-i-init g c = passed_none (slots_of (img c.args.pages.now)) c.args.name.now
 
--- src/finding.rt:56:13
 pub returns-then-is_blank-clause-none : goal.returns-then-is_blank-clause-none
-returns-then-is_blank-clause-none g c = ?
+returns-then-is_blank-clause-none g c = λ tables e.
+    let v = c.args.pages.now in
+    passed_to_blank (data_pages v) (slots_of (img v)) tables e c.loop-i.i c.args.name.now (let lt = c.loop-i-test.true in let n = c.data_pages-i-end.ensures in omega arith) c.requires.packed
+    (is_blank v c.loop-i.i c.image-image.result.now c.image-image.ensures c.is_blank.result c.is_blank.ensures c.if-is_blank.true) c.loop-i.invariant
 
--- src/finding.rt:59:13
 pub returns-then-is_named-clause-found : goal.returns-then-is_named-clause-found
-returns-then-is_named-clause-found g c = ?
+returns-then-is_named-clause-found g c = λ tables e.
+    let v = c.args.pages.now in
+    let image = c.image-image.result.now in
+    found_named (data_pages v) (slots_of (img v)) tables e c.loop-i.i c.args.name.now (let lt = c.loop-i-test.true in let n = c.data_pages-i-end.ensures in omega arith)
+    (isnt_blank v c.loop-i.i image c.image-image.ensures c.is_blank.result c.is_blank.ensures c.if-is_blank.false)
+    (named v c.loop-i.i image c.image-image.ensures c.args.name.now c.is_named.result c.is_named.ensures true c.if-is_named.true)
 
--- src/finding.rt:53:5
 pub loop-i-preserved : goal.loop-i-preserved
-loop-i-preserved g c = ?
+loop-i-preserved g c =
+    let v = c.args.pages.now in
+    let image = c.image-image.result.now in
+    passed_more (slots_of (img v)) c.loop-i.i c.args.name.now c.loop-i.invariant
+    (is_other v c.loop-i.i image c.image-image.ensures c.args.name.now c.is_named.result c.is_named.ensures
+    (isnt_blank v c.loop-i.i image c.image-image.ensures c.is_blank.result c.is_blank.ensures c.if-is_blank.false) c.if-is_named.false)
 
--- src/finding.rt:45:1
 pub returns-clause-none : goal.returns-clause-none
-returns-clause-none g c = ?
+returns-clause-none g c = λ tables e.
+    let v = c.args.pages.now in
+    passed_all (data_pages v) (slots_of (img v)) tables e c.loop-i.i c.args.name.now (let le = c.loop-i-test.false in let n = c.data_pages-i-end.ensures in omega arith) c.loop-i.invariant
