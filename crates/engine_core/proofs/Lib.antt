@@ -5,3 +5,4 @@ mod SafeLemmas
 mod Deciding
 mod Placed
 mod AtOnce
+mod EditLemmas

@@ -28,7 +28,7 @@ use Rattle.page_base.specs.declared.numbers.PageId.{PageId}
 use Rattle.snap_pages.specs.Sparse.{faults, marked, UsesFiles}
 use Rattle.snap_pages.specs.Views.{KeepsViews}
 use Rattle.engine_core.specs.Entering.{Kept, entered}
-use Rattle.engine_core.specs.Pushing.{is_suspect, plainly, weight, snaps_of, sound, name_of, faults_of, StaysOrTurns, Alike, Pushes, IsTurn, Turns}
+use Rattle.engine_core.specs.Pushing.{is_suspect, plainly, weight, snaps_of, sound, name_of, faults_of, StaysOrTurns, Alike, Leaves, Pushes, IsTurn, Turns}
 
 -- ONE EVENT LIST AFTER THE OTHER
 
@@ -80,6 +80,31 @@ pushes_trans u v w a b = record {
   views = keeps_trans u v w a.views b.views;
 }
 
+pub leaves_of : (u v : Shown) → Pushes u v → Leaves u v
+leaves_of u v a = record { counts = a.counts; count = a.count; next_cut = a.next_cut; each = a.each; views = a.views }
+
+pub leaves_trans : (u v w : Shown) → Leaves u v → Leaves v w → Leaves u w
+leaves_trans u v w a b = record {
+  counts = b.counts ∙ a.counts;
+  count = b.count ∙ a.count;
+  next_cut = b.next_cut ∙ a.next_cut;
+  each = λ s. alike_trans (snap_at (shown.catalog u) s) (snap_at (shown.catalog v) s) (snap_at (shown.catalog w) s) (a.each s) (b.each s);
+  views = keeps_trans u v w a.views b.views;
+}
+
+-- a source page changed
+pub leaves_changed : (v w : Shown) → counts w ≡ counts v → shown.catalog w ≡ shown.catalog v → KeepsViews v w → Leaves v w
+leaves_changed v w same cat views = record {
+  counts = same;
+  count = ap (λ (c : Catalog). length c.snaps) cat;
+  next_cut = ap (λ (c : Catalog). c.next_cut) cat;
+  each = λ s. subst (λ (c : Catalog). Alike (snap_at (shown.catalog v) s) (snap_at c s)) (sym cat) (alike_refl (snap_at (shown.catalog v) s));
+  views = views;
+}
+
+pub leaves_refl : (v : Shown) → Leaves v v
+leaves_refl v = leaves_changed v v refl refl (record { each = λ s kept. (kept, refl) })
+
 pub pushes_refl : (v : Shown) → Pushes v v
 pushes_refl v = record { img = refl; counts = refl; count = refl; next_cut = refl; each = λ s. alike_refl (snap_at (shown.catalog v) s); views = record { each = λ s kept. (kept, refl) } }
 
@@ -89,10 +114,10 @@ pushes_refl v = record { img = refl; counts = refl; count = refl; next_cut = ref
 pub still_lost : (x y : Snap) → Alike x y → x.state ≡ Suspect → y.state ≡ Suspect
 still_lost x y a lost = elim a.state as (λ s. y.state ≡ Suspect) [ inl e ↦ e ∙ lost | inr t ↦ absurd (t.0 lost) ]
 
-is_turn_before : (u v w : Shown) → Pushes v w → (e : Event) → IsTurn u v e → IsTurn u w e
+is_turn_before : (u v w : Shown) → Leaves v w → (e : Event) → IsTurn u v e → IsTurn u w e
 is_turn_before u v w b e t = record { snap = t.snap; there = t.there; is = t.is; lost = still_lost (snap_at (shown.catalog v) t.snap) (snap_at (shown.catalog w) t.snap) (b.each t.snap) t.lost; rose = rose_then (faults_of u t.snap) (faults_of v t.snap) (faults_of w t.snap) t.rose (b.each t.snap).later }
 
-is_turn_behind : (u v w : Shown) → Pushes u v → (e : Event) → IsTurn v w e → IsTurn u w e
+is_turn_behind : (u v w : Shown) → Leaves u v → (e : Event) → IsTurn v w e → IsTurn u w e
 is_turn_behind u v w a e t = record {
   snap = t.snap;
   there = let c = a.count in let h = t.there in omega (arith, c, h);
@@ -109,7 +134,7 @@ all_append : (P : Event → Type 0) → (es fs : List Event) → AllByRecursion 
 all_append P [] fs h k = k
 all_append P (e ∷ es) fs h k = (h.0, all_append P es fs h.1 k)
 
-pub turns_trans : (a b c : Kept) (u v w : Shown) → Pushes u v → Pushes v w → Turns a b u v → Turns b c v w → Turns a c u w
+pub turns_trans : (a b c : Kept) (u v w : Shown) → Leaves u v → Leaves v w → Turns a b u v → Turns b c v w → Turns a c u w
 turns_trans a b c u v w p q x y = record {
   events = x.events ++ y.events;
   more = y.more ∙ ap (λ (es : List Event). es ++ y.events) x.more ∙ append_assoc a.events x.events y.events;
@@ -306,7 +331,7 @@ module _ {T E : Type 0} (v mid : Shown) (s : SnapNo) (p : PageId) (result : Resu
 
     pub turns_marked : (a : Kept) → Turns a a v w
     turns_marked a =
-        turns_trans a a a v mid w pushes_used (pushes_one mid w s (record (snap_at (shown.catalog mid) s) { set = marked (set_of mid s) p }) open_still marks (record { name = refl; files = refl; cut = refl; tells = refl; later = omega arith; state = inl refl }) views')
+        turns_trans a a a v mid w (leaves_of v mid pushes_used) (leaves_of mid w (pushes_one mid w s (record (snap_at (shown.catalog mid) s) { set = marked (set_of mid s) p }) open_still marks (record { name = refl; files = refl; cut = refl; tells = refl; later = omega arith; state = inl refl }) views'))
         (turns_used a) (turns_set a mid w s (record (snap_at (shown.catalog mid) s) { set = marked (set_of mid s) p }) open_still marks refl refl)
 
   module _ (w : Shown) (turn : w ≡ with_catalog mid (with_state (shown.catalog mid) s Suspect)) (views' : KeepsViews mid w) (catalog : IsCatalog (shown.catalog v)) (sound_is : state_of v s ≢ Suspect)
@@ -342,3 +367,8 @@ module _ {T E : Type 0} (v mid : Shown) (s : SnapNo) (p : PageId) (result : Resu
     pub turns_turned : (a b : Kept) → b ≡ entered a (Turned (name_of mid s)) → 0 < a.room → Turns a b v w
     unfolding lost
     turns_turned a b made room = turns_one v w s lost has catalog sound_is twice lost_alike refl a b (made ∙ ap (λ (n : List ℕ). entered a (Turned n)) name_same) room (subst (λ x. Rose (faults_of v s) (faults x)) (sym set_same) rose)
+
+-- a source page changed, and no snapshot turned
+pub turns_changed : (a : Kept) (v w : Shown) → shown.catalog w ≡ shown.catalog v → Turns a a v w
+unfolding sound
+turns_changed a v w cat = turns_none a v w (ap (λ (c : Catalog). map plainly c.snaps) cat) (ap (λ (c : Catalog). sum_by weight c.snaps) cat)

@@ -36,11 +36,11 @@ use Rattle.engine_core.specs.declared.seat.Seat.{Seat}
 use Rattle.engine_core.specs.declared.answer.Answer.{Answer}
 use Rattle.engine_core.specs.declared.answer.Answer.TheVariants.{AtOnce, UnderAll, UnderTable}
 use Rattle.engine_core.specs.Entering.{Kept}
-use Rattle.engine_core.specs.Pushing.{is_suspect, plainly, snaps_of, sound, name_of, faults_of, Alike, IsTurn, StaysOrTurns}
+use Rattle.engine_core.specs.Pushing.{is_suspect, plainly, snaps_of, sound, name_of, faults_of, Alike, Leaves, IsTurn, StaysOrTurns}
 use Rattle.engine_core.specs.Ready.{Comes, reply_of, locks_of}
 use Rattle.engine_core.specs.Stepping.{number, idle, mid, first_of, lock_events, statement_events, tables_after, current_after, IsPlain, Around, is_lost, Moves}
 use Rattle.engine_core.specs.Safe.{Run, Disk, state, seen_by, seat_at, script_at, InStep, AreSeated, IsSeated, marks_of, AreInts, AreTables, AreCopies, sparse_names, AreOut, is_turn, AreBlamed, dues, HasRoom, Safe}
-use Rattle.engine_core.specs.Doing.{Leaves, Does}
+use Rattle.engine_core.specs.Doing.{Does}
 use Rattle.engine_core.proofs.PushLemmas.{bytes_ne, still_lost}
 use Rattle.engine_core.proofs.Stepping.{Effects, effects_of, leads_all, legal_all, legal_append, end_append}
 use Rattle.engine_core.proofs.SeatLemmas.{around, session_is, Seats, seated_next, statement_marks, statement_unmarked, turns_unmarked, dues_set}

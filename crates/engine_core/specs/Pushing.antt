@@ -58,6 +58,14 @@ pub record Alike (old new : Snap) : Type 0 where
   pub later : faults old.set ≤ faults new.set
   pub state : StaysOrTurns old.state new.state (faults old.set) (faults new.set)
 
+-- the snapshots are as they were, but for faults of their files and those that turned suspect; source pages may differ
+pub record Leaves (old new : Shown) : Type 0 where
+  pub counts : counts new ≡ counts old
+  pub count : count new ≡ count old
+  pub next_cut : (shown.catalog new).next_cut ≡ (shown.catalog old).next_cut
+  pub each : (s : SnapNo) → Alike (snap_at (shown.catalog old) s) (snap_at (shown.catalog new) s)
+  pub views : KeepsViews old new
+
 -- what pushes, or reads of sparse pages, leave of the source and the snapshots
 pub record Pushes (old new : Shown) : Type 0 where
   pub img : img new ≡ img old

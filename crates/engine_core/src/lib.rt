@@ -3,6 +3,7 @@
 
 mod answer;
 mod database;
+mod editing;
 mod ledger;
 mod pushing;
 mod seat;

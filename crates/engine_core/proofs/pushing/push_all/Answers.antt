@@ -1,7 +1,7 @@
 use Rattle.std.proofs.Common.{inl, inr, refl, subst, arith}
 use Rattle.std.proofs.lemmas.Bool.{cases_eq}
 use Rattle.snap_pages.specs.Views.{IsDue}
-use Rattle.engine_core.proofs.PushLemmas.{pushes_refl, pushes_trans, turns_none, turns_trans}
+use Rattle.engine_core.proofs.PushLemmas.{pushes_refl, pushes_trans, leaves_of, turns_none, turns_trans}
 use Rattle.engine_core.proofs.pushing.push_all.Goals as goal
 
 pub loop-s-init : goal.loop-s-init
@@ -13,7 +13,7 @@ loop-s-preserved g c =
     let e = c.push_if_due.ensures in
     record {
       pushes = pushes_trans c.args.pages.now c.loop-s.pages c.push_if_due.new.pages inv.pushes e.pushes;
-      turns = turns_trans c.args.ledger.now c.loop-s.ledger c.push_if_due.new.ledger c.args.pages.now c.loop-s.pages c.push_if_due.new.pages inv.pushes e.pushes inv.turns e.turns;
+      turns = turns_trans c.args.ledger.now c.loop-s.ledger c.push_if_due.new.ledger c.args.pages.now c.loop-s.pages c.push_if_due.new.pages (leaves_of c.args.pages.now c.loop-s.pages inv.pushes) (leaves_of c.loop-s.pages c.push_if_due.new.pages e.pushes) inv.turns e.turns;
       room = let r = e.turns.room in let f = e.turns.fewer in let h = inv.room in omega (arith, r, f, h);
       done = λ k lt due. elim (cases_eq k c.loop-s.s) [
         | inl same ↦ e.done (subst (λ n. IsDue c.push_if_due.new.pages c.args.p (record { 0 = n })) same due)
