@@ -6,3 +6,4 @@ mod Deciding
 mod Placed
 mod AtOnce
 mod EditLemmas
+mod SeeLemmas

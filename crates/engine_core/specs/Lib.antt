@@ -5,3 +5,4 @@ pub mod Stepping
 pub mod Safe
 pub mod Doing
 pub mod Databases
+pub mod Seeing

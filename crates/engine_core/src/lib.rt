@@ -6,7 +6,9 @@ mod database;
 mod editing;
 mod ledger;
 mod pushing;
+mod refusal;
 mod seat;
+mod seeing;
 
 pub use ledger::Ledger;
 pub use seat::Seat;

@@ -1,0 +1,76 @@
+-- A reader of a snapshot goes over its pages.
+use Rattle.std.proofs.Common.{◌≡◌, ◌≢◌, ◌+◌, ◌-◌, ◌<◌, ◌≤◌, ◌⊎◌, inl, inr, ℕ, get_or, Bool, true, false, cond, List, [], refl, ap, sym, ◌∙◌, subst, arith}
+use Rattle.std.specs.Prelude.{Option, Some, None, ◌↔◌}
+use Rattle.std.specs.Str.{bytes_eq}
+use Rattle.std.specs.FinMap as finite
+use Rattle.page_base.specs.declared.numbers.PageId.{PageId}
+use Rattle.page_base.specs.declared.numbers.SnapNo.{SnapNo}
+use Rattle.page_fmt.specs.Content.{content, IsPage}
+use Rattle.page_fmt.specs.Edits.{slot_at}
+use Rattle.plain_model.specs.Tables.{Table, Tables, rows_of}
+use Rattle.plain_model.specs.Meaning.{plain, shown_rows}
+use Rattle.plain_model.specs.declared.reply.Reply.{Reply}
+use Rattle.plain_model.specs.declared.reply.Reply.TheVariants.{Rows, Msg}
+use Rattle.snap_pages.specs.declared.state.Place.{Place}
+use Rattle.snap_pages.specs.declared.state.Place.TheVariants.{Sparse, Through}
+use Rattle.snap_pages.specs.Sparse as sparse
+use Rattle.snap_pages.specs.Sparse.{is_copied}
+use Rattle.snap_pages.specs.Shown.{Shown, img, counts}
+use Rattle.snap_pages.specs.Slots.{slots_of}
+use Rattle.snap_pages.specs.Views.{seen, view, IsKept}
+use Rattle.table_pages.specs.Layout.{place, tables_of, Passed, IsOther}
+use Rattle.table_pages.specs.Carried.{data_pages, Holds}
+use Rattle.table_pages.proofs.CallerLemmas.{passed_more, passed_all, passed_to_blank, found_named}
+use Rattle.engine_core.specs.Pushing.{Pushes}
+use Rattle.engine_core.specs.Safe.{AreTables}
+use Rattle.engine_core.specs.Seeing.{Shows, selected, rows_or_none}
+use Rattle.engine_core.specs.declared.seeing.Glance.TheVariants.{Blank, Named, Other, Damaged}
+
+not_copied : (b : Bool) (r : Place) → r ≡ Through → (r ≡ Sparse ↔ (b ≡ true)) → b ≡ false
+not_copied true r e h = absurd (let x : Through ≡ Sparse = sym e ∙ h.1 refl in cc)
+not_copied false r e h = refl
+
+-- a page that isn't copied is seen through to the source
+pub seen_through : (images : PageId → List ℕ) (x : sparse.Sparse) (p : PageId) (r : Place) → r ≡ Through → (r ≡ Sparse ↔ (is_copied x p ≡ true)) → seen images x p ≡ images p
+unfolding seen
+seen_through images x p r e h = ap (λ b. cond b (sparse.sparse_page x p) (images p)) (not_copied (is_copied x p) r e h)
+
+pub pages_same : (old new : Shown) → Pushes old new → data_pages new ≡ data_pages old
+pages_same old new p = ap (λ (cs : List ℕ). get_or cs 0 0 - 1) p.counts
+
+module _ (v w : Shown) (s : SnapNo) (i : ℕ) (name image : List ℕ) (pushes : Pushes v w) (passed : IsKept v s → Passed (slots_of (view v s)) i name) (kept : IsKept w s) where
+  still : Passed (slots_of (view w s)) i name
+  still = let k = pushes.views.each s kept in subst (λ (f : PageId → List ℕ). Passed (slots_of f) i name) (sym k.1) (passed k.0)
+
+  module _ (read : image ≡ view w s (place i)) where
+    -- a page of another table is passed
+    pub passes_other : Shows image name Other → Passed (slots_of (view w s)) (i + 1) name
+    passes_other shows = passed_more (slots_of (view w s)) i name still (record {
+      full = subst (λ (x : List ℕ). slot_at (content x) 0 ≢ []) read shows.0;
+      other = subst (λ (x : List ℕ). (held : List ℕ) (t : Table) → Holds x held t → bytes_eq held name ≡ false) read shows.1;
+    })
+
+    module _ (tables : Tables) (n : ℕ) (n_is : n ≡ data_pages w) (are : AreTables (data_pages w) (view w s) tables) (lt : i < n) where
+      below : i < data_pages w
+      below = subst (λ m. i < m) n_is lt
+
+      -- a blank page ends the search
+      pub blank_ends : Shows image name Blank → Msg (plain 208) ≡ selected name tables
+      blank_ends shows =
+          let none = passed_to_blank (data_pages w) (slots_of (view w s)) tables are.says i name below are.packed (subst (λ (x : List ℕ). slot_at (content x) 0 ≡ []) read shows) still in
+          sym (ap rows_or_none none)
+
+      -- the table's own page
+      pub named_ends : (reply : Reply) → Shows image name Named → ((held : List ℕ) (t : Table) → Holds image held t → reply ≡ Rows (shown_rows (rows_of t))) → reply ≡ selected name tables
+      named_ends reply shows rows =
+          let full = subst (λ (x : List ℕ). slot_at (content x) 0 ≢ []) read shows.1 in
+          let test = subst (λ (x : List ℕ). (held : List ℕ) (t : Table) → Holds x held t → bytes_eq held name ≡ true) read shows.2 in
+          let f = found_named (data_pages w) (slots_of (view w s)) tables are.says i name below full test in
+          rows name f.0 (subst (λ (x : List ℕ). Holds x name f.0) (sym read) f.1) ∙ sym (ap rows_or_none f.2)
+
+      pub damaged_never : (at : ℕ) → Shows image name (Damaged at) → ⊥
+      damaged_never at shows = shows (subst IsPage (sym read) (are.pages (place i)))
+
+-- all pages were passed
+pub all_end : (w : Shown) (s : SnapNo) (i : ℕ) (name : List ℕ) (tables : Tables) → AreTables (data_pages w) (view w s) tables → data_pages w ≤ i → Passed (slots_of (view w s)) i name → Msg (plain 208) ≡ selected name tables
+all_end w s i name tables are le passed = sym (ap rows_or_none (passed_all (data_pages w) (slots_of (view w s)) tables are.says i name le passed))
