@@ -11,3 +11,5 @@ pub mod PageLemmas
 pub mod HeldLemmas
 pub mod CallerLemmas
 mod FoundLemmas
+mod RoomLemmas
+mod PlanLemmas
