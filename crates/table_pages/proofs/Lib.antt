@@ -13,3 +13,8 @@ pub mod CallerLemmas
 mod FoundLemmas
 mod RoomLemmas
 mod PlanLemmas
+mod MappedLemmas
+mod SetsLemmas
+mod DoneLemmas
+mod UpdateLemmas
+mod PlannedLemmas
