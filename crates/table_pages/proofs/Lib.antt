@@ -11,3 +11,10 @@ pub mod PageLemmas
 pub mod HeldLemmas
 pub mod CallerLemmas
 mod FoundLemmas
+mod RoomLemmas
+mod PlanLemmas
+mod MappedLemmas
+mod SetsLemmas
+mod DoneLemmas
+mod UpdateLemmas
+mod PlannedLemmas

@@ -6,12 +6,18 @@ mod finding;
 mod header;
 mod key;
 mod page;
+mod planning;
 mod reader;
 mod row;
 mod stored;
+
+
+mod updating;
 
 pub use edit::{Edit, EditList};
 pub use finding::{data_pages, find, place};
 pub use key::key_of;
 pub use page::{columns, has_key, is_blank, is_named, read_table};
+pub use planning::{plan_create, plan_insert};
 pub use stored::StoredTable;
+pub use updating::plan_update;

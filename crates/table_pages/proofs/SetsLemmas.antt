@@ -1,0 +1,101 @@
+-- Rows after the SETs of an UPDATE.
+use Rattle.std.proofs.Common.{◌≡◌, ◌≢◌, ℕ, suc, ◌+◌, ◌*◌, ◌/◌, Bool, true, false, cond, List, [], ◌∷◌, length, refl, ap, sym, ◌∙◌, arith}
+use Rattle.std.specs.Prelude.{Option, Some}
+use Rattle.std.specs.List.{list_all, list_any}
+use Rattle.std.specs.Str.{bytes_eq}
+use Rattle.std.proofs.lemmas.Bool.{and_parts}
+use Rattle.page_base.specs.declared.column.Column.{Column}
+use Rattle.page_base.specs.declared.value.Value.{Value}
+use Rattle.page_base.specs.declared.value.Value.TheVariants.{Null, Int, Big, Text}
+use Rattle.plain_model.specs.declared.expr.Expr.{Expr}
+use Rattle.plain_model.specs.declared.expr.Expr as code
+use Rattle.plain_model.specs.declared.stmt.SetItem.{SetItem}
+use Rattle.plain_model.specs.Tables.{key_of}
+use Rattle.plain_model.specs.Meaning.{literal, is_key_column, set_value, with_sets}
+use Rattle.plain_model.specs.Next.{is_small_number}
+use Rattle.table_pages.specs.Gathered.{Item, Has}
+use Rattle.table_pages.specs.Rows.{is_int_value, row_bytes, row_of}
+use Rattle.table_pages.specs.Fitting.{FitInts}
+use Rattle.table_pages.specs.Layout.{row_item}
+use Rattle.table_pages.proofs.MappedLemmas.{item_map}
+use Rattle.table_pages.proofs.KeyLemmas.{key_of-with_sets}
+use Rattle.table_pages.proofs.RowLemmas.{IsRow, row_is, row_length, row_ints, length-row_bytes, row_of-row_bytes}
+use Rattle.table_pages.proofs.PageLemmas.{row_has, row_skip}
+
+abbrev pub are_small : List SetItem → Bool
+are_small sets = list_all (λ s. is_small_number s.to) sets
+
+-- a number that an INT column takes is an INT
+pub literal-int : (e : Expr) → is_small_number e ≡ true → is_int_value (literal e) ≡ true
+literal-int (code.Number n) h = refl
+literal-int _ h = absurd (let wrong : false ≡ true = h in cc)
+
+pub set_value-int : (sets : List SetItem) (c : Column) (v : Value) → are_small sets ≡ true → is_int_value v ≡ true → is_int_value (set_value sets c v) ≡ true
+set_value-int [] c v small h = h
+set_value-int (s ∷ sets) c v small h =
+    let parts = and_parts (is_small_number s.to) (are_small sets) small in
+    by (bytes_eq c.name s.col) (literal-int s.to parts.0) (set_value-int sets c v parts.1 h)
+  where
+    by : (b : Bool) → is_int_value (literal s.to) ≡ true → is_int_value (set_value sets c v) ≡ true → is_int_value (cond b (literal s.to) (set_value sets c v)) ≡ true
+    by true p q = p
+    by false p q = q
+
+pub length-with_sets : (sets : List SetItem) (cols : List Column) (row : List Value) → length (with_sets sets cols row) ≡ length row
+length-with_sets sets [] row = refl
+length-with_sets sets (c ∷ cols) [] = refl
+length-with_sets sets (c ∷ cols) (v ∷ row) = omega (arith, length-with_sets sets cols row)
+
+both_true : (a b : Bool) → a ≡ true → b ≡ true → cond a b false ≡ true
+both_true true b p q = q
+both_true false b p q = p
+
+pub ints-with_sets : (sets : List SetItem) (cols : List Column) (row : List Value) → are_small sets ≡ true → list_all is_int_value row ≡ true → list_all is_int_value (with_sets sets cols row) ≡ true
+ints-with_sets sets [] row small h = h
+ints-with_sets sets (c ∷ cols) [] small h = h
+ints-with_sets sets (c ∷ cols) (v ∷ row) small h =
+    let parts = and_parts (is_int_value v) (list_all is_int_value row) h in
+    rw (set_value-int sets c v small parts.0) (ints-with_sets sets cols row small parts.1)
+
+-- ONE SLOT
+
+module _ (sets : List SetItem) (cols : List Column) where
+  -- the slot holds its row after the SETs, or is empty as it was
+  pub data IsUpdated (before after : List ℕ) : Type 0 where
+    Empty : before ≡ [] → after ≡ [] → IsUpdated before after
+    Row : (row : List Value) → before ≢ [] → row_of cols before ≡ Some row → FitInts (with_sets sets cols row) → after ≡ row_bytes (with_sets sets cols row) → IsUpdated before after
+
+  module _ (small : are_small sets ≡ true) (before : List ℕ) (row : List Value) (e : row_of cols before ≡ Some row) where
+    -- no row grows
+    pub same_length : length (row_bytes (with_sets sets cols row)) ≡ length before
+    same_length =
+        let r = row_is cols before row e in
+        let long : length (with_sets sets cols row) ≡ length cols = length-with_sets sets cols row ∙ row_length cols before row e in
+        let bytes = length-row_bytes (with_sets sets cols row) (ints-with_sets sets cols row small (row_ints cols before row e)) in
+        bytes ∙ (λ t. null_part (long t)) ∙ sym r.long
+      where
+        null_part : ℕ → ℕ
+        null_part n = (n + 7) / 8 + 4 * n
+
+    pub some_bytes : before ≢ [] → row_bytes (with_sets sets cols row) ≢ []
+    some_bytes full f = full (no_length before (sym same_length ∙ ap length f))
+      where
+        no_length : (xs : List ℕ) → length xs ≡ 0 → xs ≡ []
+        no_length [] e = refl
+        no_length (x ∷ xs) e = absurd (omega arith)
+
+    pub read_again : FitInts (with_sets sets cols row) → row_of cols (row_bytes (with_sets sets cols row)) ≡ Some (with_sets sets cols row)
+    read_again fits =
+        row_of-row_bytes cols (with_sets sets cols row) (row_is cols before row e).ints (ints-with_sets sets cols row small (row_ints cols before row e))
+        (length-with_sets sets cols row ∙ row_length cols before row e) fits
+
+  -- the row of a slot after the SETs, as an entry
+  pub updated_item : are_small sets ≡ true → list_any (λ s. is_key_column cols s.col) sets ≡ false → (before after : List ℕ) → IsUpdated before after → row_item cols after ≡ item_map (with_sets sets cols) (row_item cols before)
+  updated_item small free before after (Empty old new) = row_skip cols after new ∙ ap (item_map (with_sets sets cols)) (sym (row_skip cols before old))
+  updated_item small free before after (Row row full e fits new) =
+      let h : List Value → List Value = with_sets sets cols in
+      let is : row_of cols after ≡ Some (with_sets sets cols row) = ap (row_of cols) new ∙ read_again small before row e fits in
+      row_has cols after (with_sets sets cols row) (λ f. some_bytes small before row e full (sym new ∙ f)) is
+      ∙ entry row (key_of-with_sets sets cols row free) ∙ ap (item_map h) (sym (row_has cols before row full e))
+    where
+      entry : (row : List Value) → key_of cols (with_sets sets cols row) ≡ key_of cols row → ◌≡◌ {A = Item (List Value) (List Value)} (Has (key_of cols (with_sets sets cols row)) (with_sets sets cols row)) (Has (key_of cols row) (with_sets sets cols row))
+      entry row k = ap (λ (key : List Value). Has key (with_sets sets cols row)) k

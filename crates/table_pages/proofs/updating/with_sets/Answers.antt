@@ -1,0 +1,28 @@
+use Rattle.std.proofs.Common.{rules, ◌≡◌, ◌≢◌, ◌<◌, ◌↔◌, ℕ, List, [], length, true, false, map, Some, IsTrue, IfOk, OnOk, ◌+◌, ◌-◌, ◌*◌, ◌≤◌, ◌/◌, ◌%◌, Bool, nat_eq, nat_lt, ◌∷◌, ◌++◌, slice_index_or, slice_set, bit_and, bit_or, Fits, w8, w32, w64, Bor, MutBor}
+use Rattle.std.specs.List.{list_all, list_any}
+use Rattle.page_fmt.specs.Content.{IsPage}
+use Rattle.page_base.specs.declared.numbers.PageId.{PageId}
+use Rattle.page_base.specs.declared.value.Value.{Value}
+use Rattle.plain_model.specs.Tables.{Table, Tables, Put, apply}
+use Rattle.plain_model.specs.Meaning.{literal, is_key_column, set_value, with_sets, updated_rows}
+use Rattle.plain_model.specs.Next.{is_int, is_small_number}
+use Rattle.snap_pages.specs.Shown.{img}
+use Rattle.snap_pages.specs.Slots.{slots_of}
+use Rattle.table_pages.specs.Fitting.{FitInts}
+use Rattle.table_pages.specs.Rows.{row_of, row_bytes}
+use Rattle.table_pages.specs.Plans.{Plans}
+use Rattle.table_pages.specs.Layout.{place, IsPacked}
+use Rattle.table_pages.specs.Carried.{data_pages, decoded, Holds, Carries}
+use Rattle.table_pages.proofs.updating.with_sets.Goals as goal
+
+-- src/updating.rt:59:5
+pub loop-column-init : goal.loop-column-init
+loop-column-init c = ?
+
+-- src/updating.rt:59:5
+pub loop-column-preserved : goal.loop-column-preserved
+loop-column-preserved c = ?
+
+-- src/updating.rt:54:1
+pub returns : goal.returns
+returns c = ?
