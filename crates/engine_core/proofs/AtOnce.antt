@@ -26,15 +26,12 @@ use Rattle.engine_core.specs.declared.answer.Answer.TheVariants.{AtOnce}
 use Rattle.engine_core.specs.declared.database.Database.{Database}
 use Rattle.engine_core.specs.declared.database.Database.TheVariants.{Source, Master, Snap, Absent}
 use Rattle.engine_core.specs.Databases.{Means}
+use Rattle.engine_core.specs.Deciding.{AreApart}
 use Rattle.engine_core.specs.Pushing as pushing
 use Rattle.engine_core.specs.Ready.{Seen, Ready, Comes}
 use Rattle.engine_core.proofs.PushLemmas.{bytes_same}
-use Rattle.engine_core.proofs.Deciding.{not_built, built}
+use Rattle.engine_core.proofs.Coming.{not_built, built}
 use Rattle.engine_core.proofs.Placed.{snaps, lacks_snap, lacks_lost, has_snap, has_state}
-
--- no snapshot has the name of the source or of `master`
-abbrev pub AreApart : List ℕ → Catalog → Type 0
-AreApart source cat = (s : SnapNo) → HasSnap cat s → ((snap_at cat s).name ≢ source) × ((snap_at cat s).name ≢ master)
 
 -- whether the database is a suspect snapshot
 abbrev pub is_lost : Catalog → Database → Bool

@@ -2,8 +2,9 @@ mod PushLemmas
 mod Stepping
 mod SeatLemmas
 mod SafeLemmas
-mod Deciding
+mod Coming
 mod Placed
 mod AtOnce
 mod EditLemmas
 mod SeeLemmas
+mod Decisions

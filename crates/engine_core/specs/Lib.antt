@@ -6,3 +6,4 @@ pub mod Safe
 pub mod Doing
 pub mod Databases
 pub mod Seeing
+pub mod Deciding

@@ -98,9 +98,9 @@ pub record AreSeated (e : Run) : Type 0 where
   pub gone : (i : ℕ) → i < length e.scripts → (seat_at e i).gone ≡ true → (seat_at e i).said ≡ length (script_at e i)
   pub marks : (i : ℕ) → i < length e.scripts → filter_map (mark_of (i + 1)) e.kept.events ≡ marks_of (seat_at e i)
 
--- each table has INT columns alone
+-- each table has columns, and all are INTs
 abbrev pub AreInts : Tables → Type 0
-AreInts tables = (name : List ℕ) (t : Table) → finite.get tables name ≡ Some t → list_all is_int t.cols ≡ true
+AreInts tables = (name : List ℕ) (t : Table) → finite.get tables name ≡ Some t → (list_all is_int t.cols ≡ true) × (0 < length t.cols)
 
 -- pages that are these tables, one behind the other
 pub record AreTables (n : ℕ) (images : PageId → List ℕ) (tables : Tables) : Type 0 where

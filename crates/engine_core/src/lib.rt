@@ -2,9 +2,13 @@
 #![tactic(auto)]
 
 mod answer;
+mod course;
 mod database;
+mod deciding;
+mod decision;
 mod editing;
 mod ledger;
+mod literals;
 mod pushing;
 mod refusal;
 mod seat;

@@ -1,0 +1,60 @@
+-- What is decided of a statement before anything changes.
+use Rattle.std.specs.Prelude.{ℕ, ◌≡◌, ◌≢◌, true, false, List, []}
+use Rattle.page_base.specs.declared.numbers.SnapNo.{SnapNo}
+use Rattle.plain_model.specs.declared.stmt.Stmt.{Stmt}
+use Rattle.plain_model.specs.declared.stmt.Stmt.TheVariants.{Select, CreateSnap}
+use Rattle.plain_model.specs.declared.stmt.SelectStmt.{SelectStmt}
+use Rattle.plain_model.specs.Journal.{Opening}
+use Rattle.plain_model.specs.State.{master}
+use Rattle.plain_model.specs.Next.{is_built}
+use Rattle.snap_pages.specs.Catalog.{Catalog, HasSnap, IsCatalog, snap_at}
+use Rattle.snap_pages.specs.Shown.{Shown, catalog}
+use Rattle.table_pages.specs.Carried.{Carries}
+use Rattle.engine_core.specs.declared.decision.Decision.{Decision}
+use Rattle.engine_core.specs.declared.database.Database.{Database}
+use Rattle.engine_core.specs.declared.database.Database.TheVariants.{Snap}
+use Rattle.engine_core.specs.declared.course.Course.{Course}
+use Rattle.engine_core.specs.declared.course.Course.TheVariants.{Answers, See, Cut}
+use Rattle.engine_core.specs.Databases.{Means}
+use Rattle.engine_core.specs.Pushing.{is_suspect, snaps_of}
+use Rattle.engine_core.specs.Ready.{Seen, Comes, reply_of}
+use Rattle.engine_core.specs.Stepping.{tables_after, IsPlain}
+use Rattle.engine_core.specs.Safe.{AreInts}
+
+-- no snapshot has the name of the source or of `master`
+abbrev pub AreApart : List ℕ → Catalog → Type 0
+AreApart source cat = (s : SnapNo) → HasSnap cat s → ((snap_at cat s).name ≢ source) × ((snap_at cat s).name ≢ master)
+
+-- the source of this name in these pages, which are these tables
+pub record Setting (opening : Opening) (source : List ℕ) (v : Shown) (seen : Seen) : Type 0 where
+  pub named : opening.source ≡ source
+  pub ordered : IsCatalog (catalog v)
+  pub apart : AreApart opening.source (catalog v)
+  pub none : Carries v [] seen.source
+  pub ints : AreInts seen.source
+
+-- the answer is what comes of the statement, and the edits carry the tables to what the answer makes of them
+pub record IsDecision (opening : Opening) (current : List ℕ) (v : Shown) (seen : Seen) (stmt : Stmt) (d : Decision) : Type 0 where
+  pub comes : Comes opening current seen (snaps_of v) stmt d.answer
+  pub simple : IsPlain stmt (reply_of d.answer)
+  pub carries : Carries v d.edits (tables_after stmt (reply_of d.answer) seen.source)
+  pub ints : AreInts (tables_after stmt (reply_of d.answer) seen.source)
+
+-- a SELECT of whole rows of this table, in a snapshot that isn't suspect
+pub record IsSeeing (opening : Opening) (current : List ℕ) (v : Shown) (stmt : Stmt) (s : SnapNo) (name : List ℕ) : Type 0 where
+  pub select : SelectStmt
+  pub is : stmt ≡ Select select
+  pub table : select.table ≡ name
+  pub built : is_built stmt ≡ true
+  pub means : Means opening.source (catalog v) current (Snap s)
+  pub sound : is_suspect (snap_at (catalog v) s).state ≡ false
+
+abbrev pub IsCut : Stmt → Type 0
+IsCut (CreateSnap snap files of) = Unit {0}
+IsCut stmt = ⊥
+
+-- what the engine does of the statement: it gives an answer, reads a snapshot, or cuts one
+abbrev pub IsCourse : Opening → List ℕ → Shown → Seen → Stmt → Course → Type 0
+IsCourse opening current v seen stmt (Answers d) = IsDecision opening current v seen stmt d
+IsCourse opening current v seen stmt (See s name) = IsSeeing opening current v stmt s name
+IsCourse opening current v seen stmt Cut = IsCut stmt
