@@ -1,16 +1,32 @@
 -- Decisions of each kind.
 use Rattle.std.proofs.Common.{◌≡◌, ◌≢◌, ◌+◌, ◌<◌, ◌≤◌, ◌⊎◌, inl, inr, ℕ, Bool, true, false, ◌&&◌, nat_eq, nat_le, cond, List, [], ◌∷◌, length, map, refl, ap, sym, ◌∙◌, subst, arith}
-use Rattle.std.specs.Prelude.{Option, Some, None, ◌==◌}
-use Rattle.std.specs.Str.{bytes_eq}
+use Rattle.std.specs.Prelude.{Option, Some, None, ◌==◌, unwrap_or}
+use Rattle.std.specs.List.{list_all}
+use Rattle.std.specs.Ordering.{nat_cmp, is_eq}
+use Rattle.std.specs.Cmp.Lexicographic.{slice_cmp, nat_list_cmp_total}
+use Rattle.std.specs.declared.cmp.Ordering.{Ordering}
+use Rattle.std.specs.declared.cmp.Ordering.TheVariants.{Less, Equal, Greater}
+use Rattle.std.proofs.lemmas.List.{length-map}
+use Rattle.std.proofs.lemmas.Bool.{ne_eqb}
+use Rattle.page_base.specs.declared.numbers.Mode.TheVariants.{S, X}
+use Rattle.plain_model.specs.declared.expr.Expr.{Expr}
+use Rattle.plain_model.specs.declared.stmt.Stmt.TheVariants.{CreateTable, Insert, Select, Update}
+use Rattle.plain_model.specs.declared.stmt.InsertStmt.{InsertStmt}
+use Rattle.plain_model.specs.declared.stmt.SelectStmt.{SelectStmt}
+use Rattle.plain_model.specs.Sound.{is_definition}
+use Rattle.plain_model.specs.Meaning.{plain, at_place, literal, new_rows, shown_rows, first_clash, create_shape, insert_shape, select_shape, shape, insert_data, change_and_reply}
+use Rattle.plain_model.specs.Next.{is_int, is_built}
+use Rattle.table_pages.specs.declared.edit.Edit.{Edit}
+use Rattle.engine_core.specs.declared.answer.Answer.TheVariants.{AtOnce, UnderAll, UnderTable}
+use Rattle.engine_core.proofs.Coming.{of_insert, of_select, shape_comes, reply_comes, room_comes, taken_comes, made_comes, full_comes}
 use Rattle.std.specs.FinMap as finite
 use Rattle.page_base.specs.declared.column.Column.{Column}
 use Rattle.page_base.specs.declared.value.Value.{Value}
-use Rattle.page_base.specs.declared.numbers.SnapNo.{SnapNo}
 use Rattle.plain_model.specs.declared.stmt.Stmt.{Stmt}
 use Rattle.plain_model.specs.declared.reply.Message.{Message}
 use Rattle.plain_model.specs.declared.reply.Reply.{Reply}
 use Rattle.plain_model.specs.declared.reply.Reply.TheVariants.{Ok, Count, Rows, Msg}
-use Rattle.plain_model.specs.Tables.{Tables}
+use Rattle.plain_model.specs.Tables.{Table, Tables, Change, Add, Put, applied, apply, changed, with_row, key_of, rows_of}
 use Rattle.plain_model.specs.Journal.{Opening}
 use Rattle.snap_pages.specs.Shown.{Shown}
 use Rattle.table_pages.specs.Carried.{Carries}
@@ -21,6 +37,22 @@ use Rattle.engine_core.specs.Ready.{Seen, Comes, reply_of}
 use Rattle.engine_core.specs.Stepping.{tables_after, IsPlain}
 use Rattle.engine_core.specs.Safe.{AreInts}
 use Rattle.engine_core.specs.Deciding.{Setting, IsDecision}
+
+and_true : (b : Bool) → (b && true) ≡ b
+and_true true = refl
+and_true false = refl
+
+-- the list of expressions is as long as the row of their values
+widths : (rows : List (List Expr)) (row : List Value) (n : ℕ) → map (map literal) rows ≡ row ∷ [] → list_all (λ r. length r == n) rows ≡ (length row == n)
+widths [] row n e = cc
+widths (es ∷ []) row n e =
+    let long : length es ≡ length row = sym (length-map es literal) ∙ ap (λ (rs : List (List Value)). first rs) e in
+    ap (λ m. (m == n) && true) long ∙ and_true (length row == n)
+  where
+    first : List (List Value) → ℕ
+    first [] = 0
+    first (r ∷ rs) = length r
+widths (es ∷ fs ∷ rows) row n e = cc
 
 pub msg_tables : (stmt : Stmt) (m : Message) (t : Tables) → tables_after stmt (Msg m) t ≡ t
 msg_tables stmt m t = refl
@@ -34,3 +66,101 @@ decides_only opening source current v seen stmt answer setting same simple comes
   carries = subst (λ (t : Tables). Carries v [] t) (sym same) setting.none;
   ints = subst AreInts (sym same) setting.ints;
 }
+
+-- TABLES OF INTS
+
+names_exact : finite.IsAntisymmetric (slice_cmp nat_cmp)
+names_exact = finite.slice_cmp-IsAntisymmetric finite.nat_cmp-IsAntisymmetric
+
+pub ints_insert : (tables : Tables) (name : List ℕ) (t : Table) → AreInts tables → list_all is_int t.cols ≡ true → 0 < length t.cols → AreInts (finite.insert tables name t)
+ints_insert tables name t ints all some q u there =
+    go (slice_cmp nat_cmp q name) (sym (finite.get-insert nat_list_cmp_total tables name t q) ∙ there)
+  where
+    go : (o : Ordering) → cond (is_eq o) (Some t) (finite.get tables q) ≡ Some u → (list_all is_int u.cols ≡ true) × (0 < length u.cols)
+    go Less e = ints q u e
+    go Equal e = let same : t ≡ u = cc in (subst (λ (x : Table). list_all is_int x.cols ≡ true) same all, subst (λ (x : Table). 0 < length x.cols) same some)
+    go Greater e = ints q u e
+
+-- a definition has columns
+pub some_columns : (cols : List Column) → is_definition cols ≡ true → ((length cols == 0) ≡ false) × (0 < length cols)
+some_columns [] d = absurd (let x : false ≡ true = d in cc)
+some_columns (c ∷ cs) d = (ne_eqb (length (c ∷ cs)) 0 (λ e. omega (arith, e)), omega arith)
+
+module _ (opening : Opening) (v : Shown) (seen : Seen) (setting : Setting opening opening.source v seen) where
+  -- CREATE TABLE
+
+  module _ (name : List ℕ) (cols : List Column) (b : list_all is_int cols ≡ true) (definition : is_definition cols ≡ true) where
+    pub create_taken : (t : Table) → finite.get seen.source name ≡ Some t → IsDecision opening opening.source v seen (CreateTable name cols) (record { answer = UnderAll X (Msg (plain 2714)); edits = [] })
+    create_taken t there = decides_only opening opening.source opening.source v seen (CreateTable name cols) (UnderAll X (Msg (plain 2714))) setting refl tt
+        (taken_comes opening opening.source seen (snaps_of v) refl name cols b (some_columns cols definition).0 (plain 2714) (ap create_shape there))
+
+    pub create_full : finite.get seen.source name ≡ None → IsDecision opening opening.source v seen (CreateTable name cols) (record { answer = UnderAll X (Msg (plain 1105)); edits = [] })
+    create_full none = decides_only opening opening.source opening.source v seen (CreateTable name cols) (UnderAll X (Msg (plain 1105))) setting refl tt
+        (full_comes opening opening.source seen (snaps_of v) refl name cols b (some_columns cols definition).0 (ap create_shape none))
+
+    pub create_made : (e : Edit) → finite.get seen.source name ≡ None → Carries v (e ∷ []) (applied (Add name cols) seen.source) → IsDecision opening opening.source v seen (CreateTable name cols) (record { answer = UnderAll X Ok; edits = e ∷ [] })
+    create_made e none plan = record {
+      comes = made_comes opening opening.source seen (snaps_of v) refl name cols b (some_columns cols definition).0 (ap create_shape none);
+      simple = tt;
+      carries = plan;
+      ints = ints_insert seen.source name (record { cols = cols; rows = finite.empty }) setting.ints b (some_columns cols definition).1;
+    }
+
+  -- INSERT OF ONE ROW
+
+  module _ (i : InsertStmt) (row : List Value) (t : Table) (b : is_built (Insert i) ≡ true) (rows : new_rows i ≡ row ∷ []) (there : finite.get seen.source i.table ≡ Some t) where
+    wide : list_all (λ r. length r == length t.cols) i.rows ≡ (length row == length t.cols)
+    wide = widths i.rows row (length t.cols) rows
+
+    pub insert_narrow : (length row == length t.cols) ≡ false → IsDecision opening opening.source v seen (Insert i) (record { answer = UnderAll S (Msg (plain 60013)); edits = [] })
+    insert_narrow e = decides_only opening opening.source opening.source v seen (Insert i) (UnderAll S (Msg (plain 60013))) setting refl tt
+        (shape_comes opening opening.source seen (snaps_of v) refl (Insert i) i.table X (of_insert i b) (plain 60013) (ap (insert_shape i) there ∙ ap (λ c. cond c None (Some (plain 60013))) (wide ∙ e)))
+
+    module _ (fits : (length row == length t.cols) ≡ true) where
+      shaped : shape (Insert i) seen.source ≡ None
+      shaped = ap (insert_shape i) there ∙ ap (λ c. cond c None (Some (plain 60013))) (wide ∙ fits)
+
+      meant : (k : Bool) → finite.contains_key t.rows (key_of t.cols row) ≡ k → change_and_reply (Insert i) seen.source ≡ insert_data i.table (row ∷ []) (cond k (Some 1) None)
+      meant k e =
+          ap (λ o. let u = unwrap_or o (record { cols = []; rows = finite.empty }) in insert_data i.table (new_rows i) (first_clash u.rows u.cols 1 (new_rows i))) there
+          ∙ ap (λ rs. insert_data i.table rs (first_clash t.rows t.cols 1 rs)) rows
+          ∙ ap (λ c. insert_data i.table (row ∷ []) (cond c (Some 1) None)) e
+
+      pub insert_clash : finite.contains_key t.rows (key_of t.cols row) ≡ true → IsDecision opening opening.source v seen (Insert i) (record { answer = UnderTable i.table X (Msg (at_place 2627 1)); edits = [] })
+      insert_clash e = decides_only opening opening.source opening.source v seen (Insert i) (UnderTable i.table X (Msg (at_place 2627 1))) setting refl tt
+          (reply_comes opening opening.source seen (snaps_of v) refl (Insert i) i.table X (of_insert i b) (Msg (at_place 2627 1)) shaped (ap (λ (r : List Change × Reply). r.1) (meant true e)))
+
+      pub insert_full : finite.contains_key t.rows (key_of t.cols row) ≡ false → IsDecision opening opening.source v seen (Insert i) (record { answer = UnderTable i.table X (Msg (plain 1105)); edits = [] })
+      insert_full e = decides_only opening opening.source opening.source v seen (Insert i) (UnderTable i.table X (Msg (plain 1105))) setting refl tt
+          (room_comes opening opening.source seen (snaps_of v) refl (Insert i) i.table X (of_insert i b) (Count 1) shaped refl refl (ap (λ (r : List Change × Reply). r.1) (meant false e)))
+
+      pub insert_made : (edit : Edit) → finite.contains_key t.rows (key_of t.cols row) ≡ false → Carries v (edit ∷ []) (applied (Put i.table row) seen.source) → IsDecision opening opening.source v seen (Insert i) (record { answer = UnderTable i.table X (Count 1); edits = edit ∷ [] })
+      insert_made edit e plan =
+          let changes : tables_after (Insert i) (Count 1) seen.source ≡ applied (Put i.table row) seen.source = ap (λ (r : List Change × Reply). apply r.0 seen.source) (meant false e) in
+          let mine = setting.ints i.table t there in
+          record {
+            comes = reply_comes opening opening.source seen (snaps_of v) refl (Insert i) i.table X (of_insert i b) (Count 1) shaped (ap (λ (r : List Change × Reply). r.1) (meant false e));
+            simple = tt;
+            carries = subst (λ (u : Tables). Carries v (edit ∷ []) u) (sym changes) plan;
+            ints = subst AreInts (sym (changes ∙ ap (λ o. changed seen.source i.table o (with_row row)) there)) (ints_insert seen.source i.table (with_row row t) setting.ints mine.0 mine.1);
+          }
+
+  -- SELECT OF WHOLE ROWS
+
+  module _ (s : SelectStmt) (b : is_built (Select s) ≡ true) where
+    pub select_none : finite.get seen.source s.table ≡ None → IsDecision opening opening.source v seen (Select s) (record { answer = UnderAll S (Msg (plain 208)); edits = [] })
+    select_none none = decides_only opening opening.source opening.source v seen (Select s) (UnderAll S (Msg (plain 208))) setting refl tt
+        (shape_comes opening opening.source seen (snaps_of v) refl (Select s) s.table S (of_select s b) (plain 208) (ap select_shape none))
+
+    pub select_rows : (t : Table) → finite.get seen.source s.table ≡ Some t → IsDecision opening opening.source v seen (Select s) (record { answer = UnderTable s.table S (Rows (shown_rows (rows_of t))); edits = [] })
+    select_rows t there = decides_only opening opening.source opening.source v seen (Select s) (UnderTable s.table S (Rows (shown_rows (rows_of t)))) setting refl tt
+        (reply_comes opening opening.source seen (snaps_of v) refl (Select s) s.table S (of_select s b) (Rows (shown_rows (rows_of t))) (ap select_shape there) (ap (λ o. Rows (shown_rows (rows_of (unwrap_or o (record { cols = []; rows = finite.empty }))))) there))
+
+  -- INSERT into no table
+  pub insert_none : (i : InsertStmt) → is_built (Insert i) ≡ true → finite.get seen.source i.table ≡ None → IsDecision opening opening.source v seen (Insert i) (record { answer = UnderAll S (Msg (plain 208)); edits = [] })
+  insert_none i b none = decides_only opening opening.source opening.source v seen (Insert i) (UnderAll S (Msg (plain 208))) setting refl tt
+      (shape_comes opening opening.source seen (snaps_of v) refl (Insert i) i.table X (of_insert i b) (plain 208) (ap (insert_shape i) none))
+
+-- the same decision
+pub is_same : (opening : Opening) (current : List ℕ) (v : Shown) (seen : Seen) (stmt : Stmt) (d e : Decision) → d ≡ e → IsDecision opening current v seen stmt e → IsDecision opening current v seen stmt d
+is_same opening current v seen stmt d e is h = subst (λ (x : Decision). IsDecision opening current v seen stmt x) (sym is) h

@@ -1,16 +1,16 @@
 //! What a statement is answered, decided from the pages before anything changes.
 
-ghost use Rattle.std.specs.Prelude.{◌≡◌, ◌<◌, ◌∷◌, [], ℕ, List, true, false, Some, IfOk};
+ghost use Rattle.std.specs.Prelude.{◌≡◌, ◌<◌, ◌∷◌, [], ℕ, List, true, false, Some, length, ◌==◌, IfOk};
 ghost use Rattle.page_base.specs.declared.numbers.PageId.{PageId};
 ghost use Rattle.page_fmt.specs.Content.{IsPage};
 ghost use Rattle.plain_model.specs.declared.stmt.Stmt.TheVariants.{UseDb, CreateTable, Insert, Select, Update};
 ghost use Rattle.plain_model.specs.Journal.{Opening};
 ghost use Rattle.plain_model.specs.Sound.{is_sound, is_definition};
-ghost use Rattle.std.specs.List.{list_all};
+ghost use Rattle.std.specs.List.{list_all, list_any};
 ghost use Rattle.std.specs.FinMap as finite;
 ghost use Rattle.plain_model.specs.declared.stmt.InsertStmt.{InsertStmt};
 ghost use Rattle.plain_model.specs.Tables.{Table};
-ghost use Rattle.plain_model.specs.Meaning.{new_rows};
+ghost use Rattle.plain_model.specs.Meaning.{new_rows, has_column, is_key_column};
 ghost use Rattle.plain_model.specs.Next.{is_int, is_built};
 ghost use Rattle.table_pages.specs.Rows.{is_int_value};
 ghost use Rattle.snap_pages.specs.Shown.{img, catalog};
@@ -27,12 +27,12 @@ use crate::database::{Database, find_database};
 use crate::decision::{Decision, only};
 use crate::literals::{are_ints, is_one_set, is_whole, new_row};
 use crate::refusal::{refused, refused_at};
-use page_base::{Columns, Mode, Name, NoMemory, Row};
+use page_base::{Column, Columns, Mode, Name, NoMemory, Row};
 use page_dev::PageFile;
-use plain_model::{InsertStmt, Reply, SelectStmt, Stmt, UpdateStmt};
+use plain_model::{InsertStmt, Reply, SelectStmt, SetList, Stmt, UpdateStmt};
 use snap_pages::{SnapPages, SnapState};
 use std::alloc::Global;
-use table_pages::{Edit, EditList, columns, find, has_key, place, plan_create, plan_insert, read_table};
+use table_pages::{Edit, EditList, columns, find, has_key, place, plan_create, plan_insert, plan_update, read_table};
 
 // A decision with one edit.
 fn with_edit(alloc: Global, answer: Answer, edit: Edit) -> Result<Decision, NoMemory>
@@ -58,13 +58,20 @@ fn create_in_source<P: PageFile>(
     ensures { IfOk result (λ d. (opening : Opening) (seen : Seen) → Setting opening opening.source pages.now seen →
         IsDecision opening opening.source pages.now seen (CreateTable name.now cols.now) d) }
 {
-    if find(pages, name).is_some() {
+    if let Some(_page) = find(pages, name) {
         return Ok(only(alloc, Answer::UnderAll(Mode::X, refused(2714))));
     }
     match plan_create(alloc, pages, name, cols)? {
         Some(edit) => with_edit(alloc, Answer::UnderAll(Mode::X, Reply::Ok), edit),
         None => Ok(only(alloc, Answer::UnderAll(Mode::X, refused(1105)))),
     }
+}
+
+// Whether a row has as many values as there are columns.
+fn is_as_wide(row: &Row, cols: &Columns) -> bool
+    ensures { result ≡ (length row.now == length cols.now) }
+{
+    row.len() == cols.len()
 }
 
 // INSERT of this row into the table of page `i`
@@ -79,6 +86,7 @@ fn insert_row<P: PageFile>(
     requires there { i < data_pages pages.now }
     requires pages { (p : PageId) → IsPage (img pages.now p) }
     requires packed { IsPacked (data_pages pages.now) (slots_of (img pages.now)) }
+    requires some { 0 < length row.now }
     requires ints { list_all is_int_value row.now ≡ true }
     ensures { IfOk result (λ d. (opening : Opening) (seen : Seen) (stmt : InsertStmt) (t : Table) → Setting opening opening.source pages.now seen →
         is_built (Insert stmt) ≡ true → new_rows stmt ≡ row.now ∷ [] → stmt.table ≡ name →
@@ -86,7 +94,7 @@ fn insert_row<P: PageFile>(
         IsDecision opening opening.source pages.now seen (Insert stmt) d) }
 {
     let cols = columns(alloc, pages.image(place(i)))?;
-    if row.len() != cols.len() || row.is_empty() {
+    if !is_as_wide(row, &cols) {
         return Ok(only(alloc, Answer::UnderAll(Mode::S, refused(60013))));
     }
     if has_key(pages.image(place(i)), &cols, row) {
@@ -96,4 +104,127 @@ fn insert_row<P: PageFile>(
         Some(edit) => with_edit(alloc, Answer::UnderTable(name, Mode::X, Reply::Count(1)), edit),
         None => Ok(only(alloc, Answer::UnderTable(name, Mode::X, refused(1105)))),
     }
+}
+
+// INSERT of this row in the source
+fn insert_in_source<P: PageFile>(
+    alloc: Global,
+    pages: &SnapPages<P>,
+    name: Name,
+    row: &Row,
+) -> Result<Decision, NoMemory>
+    requires few { data_pages pages.now < 4294967295 }
+    requires pages { (p : PageId) → IsPage (img pages.now p) }
+    requires packed { IsPacked (data_pages pages.now) (slots_of (img pages.now)) }
+    requires ints { list_all is_int_value row.now ≡ true }
+    ensures { IfOk result (λ d. (opening : Opening) (seen : Seen) (stmt : InsertStmt) → Setting opening opening.source pages.now seen →
+        is_built (Insert stmt) ≡ true → new_rows stmt ≡ row.now ∷ [] → stmt.table ≡ name →
+        IsDecision opening opening.source pages.now seen (Insert stmt) d) }
+{
+    let Some(i) = find(pages, &name) else {
+        return Ok(only(alloc, Answer::UnderAll(Mode::S, refused(208))));
+    };
+    if row.is_empty() {
+        return Ok(only(alloc, Answer::UnderAll(Mode::S, refused(60013))));
+    }
+    insert_row(alloc, pages, name, i, row)
+}
+
+// SELECT of whole rows in the source
+fn select_in_source<P: PageFile>(
+    alloc: Global,
+    pages: &SnapPages<P>,
+    stmt: &SelectStmt,
+) -> Result<Decision, NoMemory>
+    requires few { data_pages pages.now < 4294967295 }
+    requires pages { (p : PageId) → IsPage (img pages.now p) }
+    requires packed { IsPacked (data_pages pages.now) (slots_of (img pages.now)) }
+    requires built { is_built (Select stmt.now) ≡ true }
+    ensures { IfOk result (λ d. (opening : Opening) (seen : Seen) → Setting opening opening.source pages.now seen →
+        IsDecision opening opening.source pages.now seen (Select stmt.now) d) }
+{
+    let Some(i) = find(pages, &stmt.table) else {
+        return Ok(only(alloc, Answer::UnderAll(Mode::S, refused(208))));
+    };
+    let table = read_table(alloc, pages.image(place(i)))?;
+    let rows = table.shown_rows(alloc)?;
+    Ok(only(alloc, Answer::UnderTable(stmt.table, Mode::S, Reply::Rows(rows))))
+}
+
+// Whether each column that is set is there.
+fn are_there(cols: &Columns, sets: &SetList) -> bool
+    ensures { result ≡ list_all (λ i. has_column cols.now i.col) sets.now }
+{
+    sets.as_slice().iter().all(|set| has_column(cols.as_slice(), &set.col))
+}
+
+fn has_column(cols: &[Column], name: &Name) -> bool
+    ensures { result ≡ has_column cols.now name.now }
+{
+    cols.iter().any(|column| column.name.is_same(name))
+}
+
+fn is_key_column(cols: &[Column], name: &Name) -> bool
+    ensures { result ≡ is_key_column cols.now name.now }
+{
+    cols.iter().any(|column| column.name.is_same(name) && 1 <= column.key)
+}
+
+// Whether a column of the key is set.
+fn is_key_set(cols: &Columns, sets: &SetList) -> bool
+    ensures { result ≡ list_any (λ i. is_key_column cols.now i.col) sets.now }
+{
+    sets.as_slice().iter().any(|set| is_key_column(cols.as_slice(), &set.col))
+}
+
+// UPDATE of the table of page `i`, of columns that are there and not of the key
+fn update_rows<P: PageFile>(
+    alloc: Global,
+    pages: &SnapPages<P>,
+    i: u32,
+    cols: &Columns,
+    stmt: &UpdateStmt,
+) -> Result<Decision, NoMemory>
+    requires few { data_pages pages.now < 4294967295 }
+    requires there { i < data_pages pages.now }
+    requires pages { (p : PageId) → IsPage (img pages.now p) }
+    requires packed { IsPacked (data_pages pages.now) (slots_of (img pages.now)) }
+    requires built { is_built (Update stmt.now) ≡ true }
+    ensures { IfOk result (λ d. (opening : Opening) (seen : Seen) (t : Table) → Setting opening opening.source pages.now seen →
+        cols.now ≡ t.cols → list_all (λ i. has_column t.cols i.col) stmt.now.sets ≡ true → list_any (λ i. is_key_column t.cols i.col) stmt.now.sets ≡ false →
+        Holds (img pages.now (place i)) stmt.now.table t → finite.get seen.source stmt.now.table ≡ Some t →
+        IsDecision opening opening.source pages.now seen (Update stmt.now) d) }
+{
+    let edits = plan_update(alloc, pages, i, cols, &stmt.sets)?;
+    let count = read_table(alloc, pages.image(place(i)))?.len() as u64;
+    Ok(Decision {
+        answer: Answer::UnderTable(stmt.table, Mode::X, Reply::Count(count)),
+        edits,
+    })
+}
+
+// UPDATE in the source
+fn update_in_source<P: PageFile>(
+    alloc: Global,
+    pages: &SnapPages<P>,
+    stmt: &UpdateStmt,
+) -> Result<Decision, NoMemory>
+    requires few { data_pages pages.now < 4294967295 }
+    requires pages { (p : PageId) → IsPage (img pages.now p) }
+    requires packed { IsPacked (data_pages pages.now) (slots_of (img pages.now)) }
+    requires built { is_built (Update stmt.now) ≡ true }
+    ensures { IfOk result (λ d. (opening : Opening) (seen : Seen) → Setting opening opening.source pages.now seen →
+        IsDecision opening opening.source pages.now seen (Update stmt.now) d) }
+{
+    let Some(i) = find(pages, &stmt.table) else {
+        return Ok(only(alloc, Answer::UnderAll(Mode::S, refused(208))));
+    };
+    let cols = columns(alloc, pages.image(place(i)))?;
+    if !are_there(&cols, &stmt.sets) {
+        return Ok(only(alloc, Answer::UnderAll(Mode::S, refused(207))));
+    }
+    if is_key_set(&cols, &stmt.sets) {
+        return Ok(only(alloc, Answer::UnderAll(Mode::S, refused(60012))));
+    }
+    update_rows(alloc, pages, i, &cols, stmt)
 }
