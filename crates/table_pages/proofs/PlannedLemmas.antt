@@ -67,7 +67,14 @@ module _ (v : Shown) (i : ℕ) (sets : List SetItem) (cols : List Column) where
 
   -- one slot more, which the plan leaves alone
   stands : (edits : List Edit) (k : ℕ) → Planned edits k → IsUpdated sets cols (slots_of (img v) (place i) k) (done edits (slots_of (img v)) (place i) k) → Planned edits (k + 1)
-  stands edits k p here = record p {
+  stands edits k p here = record {
+    there = p.there;
+    fits = p.fits;
+    changes = p.changes;
+    room = p.room;
+    count = p.count;
+    front = p.front;
+    others = p.others;
     before = λ j pos lt. elim (cases_lt j k) [
       | inl low ↦ p.before j pos low
       | inr high ↦ let at : j ≡ k = omega arith in subst (λ (n : ℕ). IsUpdated sets cols (slots_of (img v) (place i) n) (done edits (slots_of (img v)) (place i) n)) (sym at) here
@@ -138,6 +145,19 @@ planned_slot v i sets cols name t k bytes old new small holds same_cols image po
           let plan = plans row (λ f. full (sym at ∙ f)) (ap (row_of cols) at ∙ is) in
           planned_more v i sets cols small k pos lt image row full is plan.fits old new (subst (Adds old new (edit_of (place i) k (with_sets sets cols row))) at plan.adds) p
     ]
+
+-- the same by the values that were handed to the call
+pub planned_call : (v : Shown) (i : ℕ) (sets : List SetItem) (cols : List Column) (name : List ℕ) (t : Table) (k : ℕ) (bytes : List ℕ) (old new : List Edit) (p : PageId) (ss : List SetItem) (cs : List Column)
+    → p ≡ place i → ss ≡ sets → cs ≡ cols → are_small sets ≡ true → Holds (img v (place i)) name t → cols ≡ t.cols
+    → IsPage (img v (place i)) → 0 < k → k < length (content (img v (place i))) → bytes ≡ slots_of (img v) (place i) k
+    → (bytes ≡ [] → new ≡ old) → ((row : List Value) → bytes ≢ [] → row_of cs bytes ≡ Some row → Plans old new p k bytes (with_sets ss cs row))
+    → Planned v i sets cols old k → Planned v i sets cols new (k + 1)
+planned_call v i sets cols name t k bytes old new p ss cs p_is ss_are cs_are small holds same_cols image pos lt at empty plans =
+    planned_slot v i sets cols name t k bytes old new small holds same_cols image pos lt at empty (λ row full e.
+    subst (λ (q : PageId). Plans old new q k bytes (with_sets sets cols row)) p_is
+    (subst (λ (xs : List SetItem). Plans old new p k bytes (with_sets xs cols row)) ss_are
+    (subst (λ (xs : List Column). Plans old new p k bytes (with_sets ss xs row)) cs_are
+    (plans row full (ap (λ (xs : List Column). row_of xs bytes) cs_are ∙ e)))))
 
 -- all slots are planned
 module _ (v : Shown) (i : ℕ) (sets : List SetItem) (name : List ℕ) (t : Table) (tables : Tables) (edits : List Edit) (k : ℕ) (small : are_small sets ≡ true) (within : i < data_pages v) (image : IsPage (img v (place i)))

@@ -56,8 +56,8 @@ fn with_sets(alloc: Global, sets: &[SetItem], cols: &[Column], row: &[Value]) ->
     ensures { IfOk result (λ r. length row.now ≡ length cols.now → r ≡ with_sets sets.now cols.now row.now) }
 {
     let mut new = Row::new(alloc);
-    for (column, value) in cols.iter().zip(row) {
-        new.push(set_value(alloc, sets, column, value)?)?;
+    for i in 0..cols.len().min(row.len()) {
+        new.push(set_value(alloc, sets, &cols[i], &row[i])?)?;
     }
     Ok(new)
 }
