@@ -26,13 +26,13 @@ use Rattle.table_pages.specs.Gathered.{Has}
 use Rattle.table_pages.specs.Rows.{row_bytes, row_of}
 use Rattle.table_pages.specs.Fitting.{FitInts}
 use Rattle.table_pages.specs.Layout.{table_item, place, table_at, tables_of, IsPacked}
-use Rattle.table_pages.specs.Edits.{done, HasRoom, FitIn, Change}
+use Rattle.table_pages.specs.Edits.{done, HasRoom, FitIn, Change, AreInOrder}
 use Rattle.table_pages.specs.Plans.{edit_of, Adds, Stays, Changes, Plans}
 use Rattle.table_pages.specs.Carried.{data_pages, decoded, Holds, Carries}
 use Rattle.table_pages.proofs.CollectLemmas.{collect_set}
 use Rattle.table_pages.proofs.OrderLemmas.{names_exact}
 use Rattle.table_pages.proofs.SetsLemmas.{are_small, IsUpdated, Empty, Row, same_length, some_bytes}
-use Rattle.table_pages.proofs.DoneLemmas.{Contents, after, slots_in, slots_after, done_more, after_more, fit_more, change_more, each_more, set_same, slot_short}
+use Rattle.table_pages.proofs.DoneLemmas.{Contents, after, slots_in, slots_after, done_more, after_more, fit_more, change_more, each_more, order_more, below_later, set_same, slot_short}
 use Rattle.table_pages.proofs.PageLemmas.{table_is, page_slot, few_slots, slot_past}
 use Rattle.table_pages.proofs.PageLemmas as page
 use Rattle.table_pages.proofs.PlanLemmas.{places_apart}
@@ -43,6 +43,8 @@ module _ (v : Shown) (i : ℕ) (sets : List SetItem) (cols : List Column) where
   -- the slots before slot k are planned
   pub record Planned (edits : List Edit) (k : ℕ) : Type 0 where
     pub there : AllByRecursion (λ (e : Edit). e.page ≡ place i) edits
+    pub order : AreInOrder (place i) 0 edits
+    pub below : AllByRecursion (λ (e : Edit). e.slot < k) edits
     pub fits : FitIn (λ p. content (img v p)) edits
     pub changes : Change (slots_of (img v)) edits
     pub room : used (after edits (λ p. content (img v p)) (place i)) ≤ 8192
@@ -55,6 +57,8 @@ module _ (v : Shown) (i : ℕ) (sets : List SetItem) (cols : List Column) where
   pub planned_none : IsPage (img v (place i)) → Planned [] 1
   planned_none page = record {
     there = tt;
+    order = tt;
+    below = tt;
     fits = tt;
     changes = tt;
     room = page.fits.small;
@@ -69,6 +73,8 @@ module _ (v : Shown) (i : ℕ) (sets : List SetItem) (cols : List Column) where
   stands : (edits : List Edit) (k : ℕ) → Planned edits k → IsUpdated sets cols (slots_of (img v) (place i) k) (done edits (slots_of (img v)) (place i) k) → Planned edits (k + 1)
   stands edits k p here = record {
     there = p.there;
+    order = p.order;
+    below = below_later k edits p.below;
     fits = p.fits;
     changes = p.changes;
     room = p.room;
@@ -105,6 +111,8 @@ module _ (v : Shown) (i : ℕ) (sets : List SetItem) (cols : List Column) where
         let few = few_slots (img v (place i)) page in
         record {
           there = each_more (λ (d : Edit). d.page ≡ place i) old edit p.there refl;
+          order = order_more (place i) 0 k old edit p.order p.below pos refl refl;
+          below = each_more (λ (d : Edit). d.slot < k + 1) old edit (below_later k old p.below) (omega arith);
           fits = fit_more old edit c p.fits (record {
             index = omega arith;
             short = (let max = slot_short (after old c (place i)) k p.room within in omega arith);

@@ -12,6 +12,7 @@ ghost use Rattle.snap_pages.specs.Shown.{img};
 ghost use Rattle.snap_pages.specs.Slots.{slots_of};
 ghost use Rattle.table_pages.specs.Fitting.{FitInts};
 ghost use Rattle.table_pages.specs.Rows.{row_of, row_bytes};
+ghost use Rattle.table_pages.specs.Edits.{AreInOrder};
 ghost use Rattle.table_pages.specs.Plans.{Plans};
 ghost use Rattle.table_pages.specs.Layout.{place, IsPacked};
 ghost use Rattle.table_pages.specs.Carried.{data_pages, decoded, Holds, Carries};
@@ -122,7 +123,8 @@ pub fn plan_update<P: PageFile>(
     requires pages { (p : PageId) → IsPage (img pages.now p) }
     requires packed { IsPacked (data_pages pages.now) (slots_of (img pages.now)) }
     requires small { list_all (λ s. is_small_number s.to) sets.now ≡ true }
-    ensures { IfOk result (λ edits. (name : List ℕ) (t : Table) (tables : Tables) →
+    ensures order { IfOk result (λ edits. (name : List ℕ) (t : Table) → Holds (img pages.now (place i)) name t → cols.now ≡ t.cols → AreInOrder (place i) 0 edits) }
+    ensures carries { IfOk result (λ edits. (name : List ℕ) (t : Table) (tables : Tables) →
         Holds (img pages.now (place i)) name t → decoded pages.now ≡ Some tables →
         cols.now ≡ t.cols → list_all is_int t.cols ≡ true → list_any (λ s. is_key_column t.cols s.col) sets.now ≡ false →
         Carries pages.now edits (apply (map (Put name) (updated_rows sets.now t)) tables)) }

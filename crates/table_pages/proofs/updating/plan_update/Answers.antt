@@ -23,8 +23,11 @@ loop-s-preserved g c = λ name t holds same.
     (let low = c.loop-s.auto.s in omega arith) (let high = c.loop-s-test.true in omega arith) (c.slot.ensures ∙ ap (λ (x : List ℕ). slot_at (content x) c.loop-s.s) image_is)
     c.in_ok-plan_slot.ensures.empty c.in_ok-plan_slot.ensures.row (c.loop-s.invariant name t holds same)
 
-pub returns : goal.returns
-returns g c = λ name t tables holds e same ints free.
+pub returns-clause-order : goal.returns-clause-order
+returns-clause-order g c = λ name t holds same. (c.loop-s.invariant name t holds same).order
+
+pub returns-clause-carries : goal.returns-clause-carries
+returns-clause-carries g c = λ name t tables holds e same ints free.
     let v = c.args.pages.now in
     let planned = subst (λ (cs : List Column). Planned v c.args.i c.args.sets.now cs c.loop-s.edits c.loop-s.s) same (c.loop-s.invariant name t holds same) in
     let slots : c.slots-s-end.result ≡ length (content (img v (place c.args.i))) = c.slots-s-end.ensures ∙ ap (λ (x : List ℕ). length (content x)) c.image-image.ensures in
