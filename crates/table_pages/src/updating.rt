@@ -39,7 +39,12 @@ fn literal(number: &Expr) -> Value
 }
 
 // What a column holds after the SETs.
-fn set_value(alloc: Global, sets: &[SetItem], column: &Column, value: &Value) -> Result<Value, NoMemory>
+fn set_value(
+    alloc: Global,
+    sets: &[SetItem],
+    column: &Column,
+    value: &Value,
+) -> Result<Value, NoMemory>
     requires { list_all (λ s. is_small_number s.to) sets.now ≡ true }
     ensures { IfOk result (λ v. v ≡ set_value sets.now column.now value.now) }
 {
@@ -52,7 +57,12 @@ fn set_value(alloc: Global, sets: &[SetItem], column: &Column, value: &Value) ->
 }
 
 // A row after the SETs.
-fn with_sets(alloc: Global, sets: &[SetItem], cols: &[Column], row: &[Value]) -> Result<Row, NoMemory>
+fn with_sets(
+    alloc: Global,
+    sets: &[SetItem],
+    cols: &[Column],
+    row: &[Value],
+) -> Result<Row, NoMemory>
     requires { list_all (λ s. is_small_number s.to) sets.now ≡ true }
     ensures { IfOk result (λ r. length row.now ≡ length cols.now → r ≡ with_sets sets.now cols.now row.now) }
 {
@@ -64,7 +74,12 @@ fn with_sets(alloc: Global, sets: &[SetItem], cols: &[Column], row: &[Value]) ->
 }
 
 // The bytes of a slot's row after the SETs.
-fn updated_bytes(alloc: Global, sets: &[SetItem], cols: &[Column], bytes: &[u8]) -> Result<Bytes, NoMemory>
+fn updated_bytes(
+    alloc: Global,
+    sets: &[SetItem],
+    cols: &[Column],
+    bytes: &[u8],
+) -> Result<Bytes, NoMemory>
     requires { list_all (λ s. is_small_number s.to) sets.now ≡ true }
     ensures bytes { IfOk result (λ new. (row : List Value) → row_of cols.now bytes.now ≡ Some row → new ≡ row_bytes (with_sets sets.now cols.now row)) }
     ensures fits { OnOk result ((row : List Value) → row_of cols.now bytes.now ≡ Some row → FitInts (with_sets sets.now cols.now row)) }
@@ -133,7 +148,15 @@ pub fn plan_update<P: PageFile>(
     let page = place(i);
     let mut edits = EditList::new(alloc);
     for s in 1..slots(image) {
-        plan_slot(alloc, &mut edits, page, s, sets.as_slice(), cols.as_slice(), slot(image, s))?;
+        plan_slot(
+            alloc,
+            &mut edits,
+            page,
+            s,
+            sets.as_slice(),
+            cols.as_slice(),
+            slot(image, s),
+        )?;
     }
     Ok(edits)
 }
