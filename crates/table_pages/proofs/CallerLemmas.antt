@@ -1,33 +1,37 @@
 -- What callers know of the pages that they went over in search of a table, and of plans that are carried out edit by edit.
-use Rattle.std.proofs.Common.{◌≡◌, ◌≢◌, ℕ, zero, suc, ◌+◌, ◌-◌, ◌<◌, ◌≤◌, Bool, true, false, cond, inl, inr, List, [], ◌∷◌, length, get_or, All, refl, ap, sym, ◌∙◌, subst, arith}
+use Rattle.std.proofs.Common.{◌≡◌, ◌≢◌, ℕ, zero, suc, ◌+◌, ◌-◌, ◌<◌, ◌≤◌, Bool, true, false, cond, inl, inr, List, [], ◌∷◌, length, map, get_or, All, refl, ap, sym, ◌∙◌, subst, arith}
 use Rattle.std.specs.Prelude.{Option, Some, None, slice_index}
 use Rattle.std.specs.FinMap as finite
 use Rattle.std.specs.Str.{bytes_eq}
 use Rattle.std.specs.Cmp.Lexicographic.{nat_list_cmp_total}
 use Rattle.std.specs.List.{list_all}
-use Rattle.std.proofs.lemmas.Bool.{cases_lt, cases_eq}
+use Rattle.std.proofs.lemmas.Bool.{cases_lt, cases_eq, and_parts}
 use Rattle.std.proofs.lemmas.Slice.Eq.{bytes_eq-Decides}
 use Rattle.page_base.specs.declared.numbers.PageId.{PageId}
-use Rattle.page_base.specs.Pages.{is_page, set_at}
+use Rattle.page_base.specs.Pages.{blank, is_page, set_at}
 use Rattle.page_base.specs.Slots.{Slots, with_slot}
 use Rattle.page_fmt.specs.Spelling.{used}
-use Rattle.page_fmt.specs.Content.{content}
-use Rattle.page_fmt.specs.Edits.{edited, LacksRoom}
+use Rattle.page_fmt.specs.Content.{content, IsPage}
+use Rattle.page_fmt.specs.Edits.{edited, slot_at, LacksRoom}
+use Rattle.page_fmt.proofs.CallerLemmas.{content-blank}
 use Rattle.plain_model.specs.declared.expr.Expr.{Expr}
-use Rattle.plain_model.specs.declared.expr.Expr as code
 use Rattle.plain_model.specs.Tables.{Table, Tables}
 use Rattle.plain_model.specs.Meaning.{literal}
+use Rattle.plain_model.specs.Sound.{is_definition}
 use Rattle.plain_model.specs.Next.{is_small_number}
 use Rattle.snap_pages.specs.Shown.{Shown, img, counts, IsThere}
 use Rattle.snap_pages.specs.Slots.{slots_of}
 use Rattle.table_pages.specs.declared.edit.Edit.{Edit}
 use Rattle.table_pages.specs.Gathered.{Item, Skip, Bad, Has}
+use Rattle.table_pages.specs.Rows.{is_int_value}
 use Rattle.table_pages.specs.Layout.{place, table_at, tables_of, IsBlankAt, IsPacked, IsOther, Passed}
 use Rattle.table_pages.specs.Edits.{done, HasRoom, FitIn, Change}
-use Rattle.table_pages.specs.Carried.{data_pages, decoded, Carries}
-use Rattle.table_pages.proofs.CollectLemmas.{collect_at, collect_good, collect_lacks}
+use Rattle.table_pages.specs.Carried.{data_pages, decoded, Holds, Carries}
+use Rattle.table_pages.proofs.CollectLemmas.{collect_at, collect_good, collect_lacks, collect_none}
 use Rattle.table_pages.proofs.OrderLemmas.{names_exact}
-use Rattle.table_pages.proofs.PageLemmas.{table_is, skip_is}
+use Rattle.table_pages.proofs.PageLemmas.{table_is, skip_is, bare_skips}
+use Rattle.table_pages.proofs.HeaderLemmas.{header_is}
+use Rattle.table_pages.proofs.SetsLemmas.{literal-int}
 
 -- THE TABLE OF A NAME
 
@@ -135,3 +139,47 @@ carries_end v tables plan = plan.says
 -- the first edit of a plan has room
 pub carries_room : (v : Shown) (e : Edit) (es : List Edit) (tables : Tables) (need free : ℕ) → Carries v (e ∷ es) tables → LacksRoom (content (img v e.page)) (edited (content (img v e.page)) e.slot e.bytes) need free → ⊥
 carries_room v e es tables need free plan lacks = let room = plan.fits.0.room in let more = lacks.grows in let left = lacks.left in let less = lacks.lacks in absurd (omega arith)
+
+-- nothing but the snapshots changed
+pub carries_same : (v new : Shown) (es : List Edit) (tables : Tables) → img new ≡ img v → counts new ≡ counts v → Carries v es tables → Carries new es tables
+carries_same v new es tables images same plan = record {
+  there = subst (λ (cs : List ℕ). All (λ (e : Edit). e.page.page < slice_index cs e.page.file) es) (sym same) plan.there;
+  fits = subst (λ (im : PageId → List ℕ). FitIn (λ p. content (im p)) es) (sym images) plan.fits;
+  changes = subst (λ (im : PageId → List ℕ). Change (slots_of im) es) (sym images) plan.changes;
+  says = (λ t. tables_of (slice_index (same t) 0 - 1) (done es (slots_of (images t)))) ∙ plan.says;
+  packed = subst (λ (cs : List ℕ). IsPacked (slice_index cs 0 - 1) (done es (slots_of (img new)))) (sym same) (subst (λ (im : PageId → List ℕ). IsPacked (data_pages v) (done es (slots_of im))) (sym images) plan.packed);
+}
+
+-- the pages stay pages where one of them changes to a page
+pub pages_on : (v new : Shown) (p : PageId) → ((q : PageId) → IsPage (img v q)) → IsPage (img new p) → img new ≡ set_at (img v) p (img new p) → (q : PageId) → IsPage (img new q)
+pages_on v new p pages page images q = subst (λ (im : PageId → List ℕ). IsPage (im q)) (sym images) (by (is_page p q))
+  where
+    by : (b : Bool) → IsPage (cond b (img new p) (img v q))
+    by true = page
+    by false = pages q
+
+-- PAGES OF ZEROS
+
+pub blank_slots : (images : PageId → List ℕ) → images ≡ (λ p. blank) → (p : PageId) (j : ℕ) → slots_of images p j ≡ []
+blank_slots images e p j = (λ t. slot_at (content (e t p)) j) ∙ ap (λ (s : List (List ℕ)). slot_at s j) content-blank
+
+-- they hold no tables, with no gap between them
+pub blank_tables : (n : ℕ) (slots : Slots) → ((p : PageId) (j : ℕ) → slots p j ≡ []) → tables_of n slots ≡ Some finite.empty
+unfolding tables_of
+blank_tables n slots none = collect_none nat_list_cmp_total names_exact (table_at slots) n (λ i lt. bare_skips (slots (place i)) (none (place i)))
+
+pub blank_packed : (n : ℕ) (slots : Slots) → ((p : PageId) (j : ℕ) → slots p j ≡ []) → IsPacked n slots
+blank_packed n slots none = record { behind = λ i j lt high blank_at. none (place j) 0 }
+
+-- WHAT A TABLE'S COLUMNS AND ROWS ARE
+
+-- a table's columns are a good definition
+pub held_definition : (image name : List ℕ) (t : Table) → Holds image name t → is_definition t.cols ≡ true
+held_definition image name t holds = (header_is (slot_at (content image) 0) name t.cols (table_is (slot_at (content image)) name t holds).header).definition
+
+-- numbers that INT columns take are INTs
+pub literals-ints : (es : List Expr) → list_all is_small_number es ≡ true → list_all is_int_value (map literal es) ≡ true
+literals-ints [] h = refl
+literals-ints (e ∷ es) h =
+    let parts = and_parts (is_small_number e) (list_all is_small_number es) h in
+    rw (literal-int e parts.0) (literals-ints es parts.1)

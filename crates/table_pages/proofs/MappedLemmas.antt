@@ -146,9 +146,9 @@ module _ {K X : Type 0} {R : K → K → Ordering} (o : IsTotalOrder R) (same : 
     over_all m new keys stays each =
         let found = found_each (finite.entries m) (sorted m) in
         same_map o same _ _ (λ q.
-            over_get m (finite.values m) m q (all_values m keys (finite.entries m) found) stays
-            ∙ ap (λ (b : Bool). cond b (option_map h (finite.get m q)) (finite.get m q)) (any_value m q keys (finite.entries m) found ∙ sym (contains_key-keys m q))
-            ∙ found_or_none (finite.get m q) ∙ sym (each q))
+        over_get m (finite.values m) m q (all_values m keys (finite.entries m) found) stays
+        ∙ ap (λ (b : Bool). cond b (option_map h (finite.get m q)) (finite.get m q)) (any_value m q keys (finite.entries m) found ∙ sym (contains_key-keys m q))
+        ∙ found_or_none (finite.get m q) ∙ sym (each q))
       where
         sorted : (m : FinMap R X) → is_sorted R (finite.entries m) ≡ true
         sorted m = by (is_sorted R (finite.entries m)) refl

@@ -114,6 +114,15 @@ pub bare_slots : (page : ℕ → List ℕ) (j : ℕ) → is_bare page ≡ true �
 unfolding is_bare
 bare_slots page j e pos lt = let at : (j - 1) + 1 ≡ j = omega arith in ap page (sym at) ∙ empty_slots page 4047 (j - 1) e (omega arith)
 
+-- a page of which all slots are empty is blank
+pub bare_skips : (page : ℕ → List ℕ) → ((j : ℕ) → page j ≡ []) → table_item page ≡ Skip
+unfolding table_item is_bare
+bare_skips page none = ap (λ (s : List ℕ). with_front s page) (none 0) ∙ ap (λ (b : Bool). cond b Skip Bad) (all_empty 4047)
+  where
+    all_empty : (n : ℕ) → are_empty page n ≡ true
+    all_empty zero = refl
+    all_empty (suc n) = rw (none (n + 1)) (all_empty n)
+
 pub bare_rows : (cols : List Column) (page : ℕ → List ℕ) → ((j : ℕ) → 0 < j → j < 4048 → page j ≡ []) → rows_in cols page ≡ Some finite.empty
 unfolding rows_in
 bare_rows cols page h = collect_none key_cmp_total keys_exact (row_at cols page) 4047 (λ i lt. ap (row_item cols) (h (i + 1) (omega arith) (omega arith)))

@@ -26,13 +26,13 @@ use Rattle.table_pages.specs.Gathered.{Has}
 use Rattle.table_pages.specs.Rows.{row_bytes, row_of}
 use Rattle.table_pages.specs.Fitting.{FitInts}
 use Rattle.table_pages.specs.Layout.{table_item, place, table_at, tables_of, IsPacked}
-use Rattle.table_pages.specs.Edits.{done, HasRoom, FitIn, Change}
+use Rattle.table_pages.specs.Edits.{done, HasRoom, FitIn, Change, AreInOrder}
 use Rattle.table_pages.specs.Plans.{edit_of, Adds, Stays, Changes, Plans}
 use Rattle.table_pages.specs.Carried.{data_pages, decoded, Holds, Carries}
 use Rattle.table_pages.proofs.CollectLemmas.{collect_set}
 use Rattle.table_pages.proofs.OrderLemmas.{names_exact}
 use Rattle.table_pages.proofs.SetsLemmas.{are_small, IsUpdated, Empty, Row, same_length, some_bytes}
-use Rattle.table_pages.proofs.DoneLemmas.{Contents, after, slots_in, slots_after, done_more, after_more, fit_more, change_more, each_more, set_same, slot_short}
+use Rattle.table_pages.proofs.DoneLemmas.{Contents, after, slots_in, slots_after, done_more, after_more, fit_more, change_more, each_more, order_more, below_later, set_same, slot_short}
 use Rattle.table_pages.proofs.PageLemmas.{table_is, page_slot, few_slots, slot_past}
 use Rattle.table_pages.proofs.PageLemmas as page
 use Rattle.table_pages.proofs.PlanLemmas.{places_apart}
@@ -43,6 +43,8 @@ module _ (v : Shown) (i : ℕ) (sets : List SetItem) (cols : List Column) where
   -- the slots before slot k are planned
   pub record Planned (edits : List Edit) (k : ℕ) : Type 0 where
     pub there : AllByRecursion (λ (e : Edit). e.page ≡ place i) edits
+    pub order : AreInOrder (place i) 0 edits
+    pub below : AllByRecursion (λ (e : Edit). e.slot < k) edits
     pub fits : FitIn (λ p. content (img v p)) edits
     pub changes : Change (slots_of (img v)) edits
     pub room : used (after edits (λ p. content (img v p)) (place i)) ≤ 8192
@@ -55,6 +57,8 @@ module _ (v : Shown) (i : ℕ) (sets : List SetItem) (cols : List Column) where
   pub planned_none : IsPage (img v (place i)) → Planned [] 1
   planned_none page = record {
     there = tt;
+    order = tt;
+    below = tt;
     fits = tt;
     changes = tt;
     room = page.fits.small;
@@ -67,7 +71,16 @@ module _ (v : Shown) (i : ℕ) (sets : List SetItem) (cols : List Column) where
 
   -- one slot more, which the plan leaves alone
   stands : (edits : List Edit) (k : ℕ) → Planned edits k → IsUpdated sets cols (slots_of (img v) (place i) k) (done edits (slots_of (img v)) (place i) k) → Planned edits (k + 1)
-  stands edits k p here = record p {
+  stands edits k p here = record {
+    there = p.there;
+    order = p.order;
+    below = below_later k edits p.below;
+    fits = p.fits;
+    changes = p.changes;
+    room = p.room;
+    count = p.count;
+    front = p.front;
+    others = p.others;
     before = λ j pos lt. elim (cases_lt j k) [
       | inl low ↦ p.before j pos low
       | inr high ↦ let at : j ≡ k = omega arith in subst (λ (n : ℕ). IsUpdated sets cols (slots_of (img v) (place i) n) (done edits (slots_of (img v)) (place i) n)) (sym at) here
@@ -98,6 +111,8 @@ module _ (v : Shown) (i : ℕ) (sets : List SetItem) (cols : List Column) where
         let few = few_slots (img v (place i)) page in
         record {
           there = each_more (λ (d : Edit). d.page ≡ place i) old edit p.there refl;
+          order = order_more (place i) 0 k old edit p.order p.below pos refl refl;
+          below = each_more (λ (d : Edit). d.slot < k + 1) old edit (below_later k old p.below) (omega arith);
           fits = fit_more old edit c p.fits (record {
             index = omega arith;
             short = (let max = slot_short (after old c (place i)) k p.room within in omega arith);
@@ -138,6 +153,19 @@ planned_slot v i sets cols name t k bytes old new small holds same_cols image po
           let plan = plans row (λ f. full (sym at ∙ f)) (ap (row_of cols) at ∙ is) in
           planned_more v i sets cols small k pos lt image row full is plan.fits old new (subst (Adds old new (edit_of (place i) k (with_sets sets cols row))) at plan.adds) p
     ]
+
+-- the same by the values that were handed to the call
+pub planned_call : (v : Shown) (i : ℕ) (sets : List SetItem) (cols : List Column) (name : List ℕ) (t : Table) (k : ℕ) (bytes : List ℕ) (old new : List Edit) (p : PageId) (ss : List SetItem) (cs : List Column)
+    → p ≡ place i → ss ≡ sets → cs ≡ cols → are_small sets ≡ true → Holds (img v (place i)) name t → cols ≡ t.cols
+    → IsPage (img v (place i)) → 0 < k → k < length (content (img v (place i))) → bytes ≡ slots_of (img v) (place i) k
+    → (bytes ≡ [] → new ≡ old) → ((row : List Value) → bytes ≢ [] → row_of cs bytes ≡ Some row → Plans old new p k bytes (with_sets ss cs row))
+    → Planned v i sets cols old k → Planned v i sets cols new (k + 1)
+planned_call v i sets cols name t k bytes old new p ss cs p_is ss_are cs_are small holds same_cols image pos lt at empty plans =
+    planned_slot v i sets cols name t k bytes old new small holds same_cols image pos lt at empty (λ row full e.
+    subst (λ (q : PageId). Plans old new q k bytes (with_sets sets cols row)) p_is
+    (subst (λ (xs : List SetItem). Plans old new p k bytes (with_sets xs cols row)) ss_are
+    (subst (λ (xs : List Column). Plans old new p k bytes (with_sets ss xs row)) cs_are
+    (plans row full (ap (λ (xs : List Column). row_of xs bytes) cs_are ∙ e)))))
 
 -- all slots are planned
 module _ (v : Shown) (i : ℕ) (sets : List SetItem) (name : List ℕ) (t : Table) (tables : Tables) (edits : List Edit) (k : ℕ) (small : are_small sets ≡ true) (within : i < data_pages v) (image : IsPage (img v (place i)))

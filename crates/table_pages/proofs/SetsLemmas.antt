@@ -1,9 +1,10 @@
 -- Rows after the SETs of an UPDATE.
-use Rattle.std.proofs.Common.{◌≡◌, ◌≢◌, ℕ, suc, ◌+◌, ◌*◌, ◌/◌, Bool, true, false, cond, List, [], ◌∷◌, length, refl, ap, sym, ◌∙◌, arith}
+use Rattle.std.proofs.Common.{◌≡◌, ◌≢◌, ℕ, suc, ◌+◌, ◌*◌, ◌/◌, ◌<◌, ◌≤◌, Bool, true, false, cond, List, [], ◌∷◌, ◌++◌, length, get_or, drop, append_assoc, refl, ap, sym, ◌∙◌, arith}
 use Rattle.std.specs.Prelude.{Option, Some}
 use Rattle.std.specs.List.{list_all, list_any}
 use Rattle.std.specs.Str.{bytes_eq}
 use Rattle.std.proofs.lemmas.Bool.{and_parts}
+use Rattle.std.proofs.lemmas.List.{append-nil, drop_more, drop_all}
 use Rattle.page_base.specs.declared.column.Column.{Column}
 use Rattle.page_base.specs.declared.value.Value.{Value}
 use Rattle.page_base.specs.declared.value.Value.TheVariants.{Null, Int, Big, Text}
@@ -99,3 +100,42 @@ module _ (sets : List SetItem) (cols : List Column) where
     where
       entry : (row : List Value) → key_of cols (with_sets sets cols row) ≡ key_of cols row → ◌≡◌ {A = Item (List Value) (List Value)} (Has (key_of cols (with_sets sets cols row)) (with_sets sets cols row)) (Has (key_of cols row) (with_sets sets cols row))
       entry row k = ap (λ (key : List Value). Has key (with_sets sets cols row)) k
+
+-- THE LOOPS
+
+-- a SET of another column is passed
+pub set_value-past : (sets : List SetItem) (c : Column) (v : Value) (i : ℕ) (s : SetItem) → i < length sets → s ≡ get_or sets i s → bytes_eq c.name s.col ≡ false → set_value (drop i sets) c v ≡ set_value (drop (i + 1) sets) c v
+set_value-past sets c v i s lt is other =
+    ap (λ (ss : List SetItem). set_value ss c v) (drop_more sets i s lt ∙ ap (λ (r : SetItem). r ∷ drop (i + 1) sets) (sym is))
+    ∙ ap (λ (b : Bool). cond b (literal s.to) (set_value (drop (i + 1) sets) c v)) other
+
+-- the first SET of the column gives the value
+pub set_value-here : (sets : List SetItem) (c : Column) (v : Value) (i : ℕ) (s : SetItem) → i < length sets → s ≡ get_or sets i s → bytes_eq c.name s.col ≡ true → set_value (drop i sets) c v ≡ literal s.to
+set_value-here sets c v i s lt is same =
+    ap (λ (ss : List SetItem). set_value ss c v) (drop_more sets i s lt ∙ ap (λ (r : SetItem). r ∷ drop (i + 1) sets) (sym is))
+    ∙ ap (λ (b : Bool). cond b (literal s.to) (set_value (drop (i + 1) sets) c v)) same
+
+-- no SET is left
+pub set_value-end : (sets : List SetItem) (c : Column) (v : Value) (i : ℕ) → length sets ≤ i → set_value (drop i sets) c v ≡ v
+set_value-end sets c v i le = ap (λ (ss : List SetItem). set_value ss c v) (drop_all i sets le)
+
+-- one more value of a row
+pub with_sets-more : (sets : List SetItem) (cols : List Column) (row new next all : List Value) (i : ℕ) (c : Column) (v : Value) → i < length cols → i < length row → c ≡ get_or cols i c → v ≡ get_or row i v
+    → new ++ with_sets sets (drop i cols) (drop i row) ≡ all → next ≡ new ++ set_value sets c v ∷ [] → next ++ with_sets sets (drop (i + 1) cols) (drop (i + 1) row) ≡ all
+with_sets-more sets cols row new next all i c v in_cols in_row c_is v_is so_far more =
+    let rest : List Value = with_sets sets (drop (i + 1) cols) (drop (i + 1) row) in
+    let cols_are : drop i cols ≡ c ∷ drop (i + 1) cols = drop_more cols i c in_cols ∙ ap (λ (d : Column). d ∷ drop (i + 1) cols) (sym c_is) in
+    let row_is : drop i row ≡ v ∷ drop (i + 1) row = drop_more row i v in_row ∙ ap (λ (w : Value). w ∷ drop (i + 1) row) (sym v_is) in
+    ap (λ (xs : List Value). xs ++ rest) more ∙ append_assoc new (set_value sets c v ∷ []) rest
+    ∙ ap (λ (xs : List Value). new ++ xs) (sym (λ t. with_sets sets (cols_are t) (row_is t))) ∙ so_far
+
+pub with_sets-end : (sets : List SetItem) (cols : List Column) (row new all : List Value) (i : ℕ) → length cols ≤ i → length row ≤ i → new ++ with_sets sets (drop i cols) (drop i row) ≡ all → new ≡ all
+with_sets-end sets cols row new all i past_cols past_row so_far =
+    sym (append-nil new) ∙ ap (λ (xs : List Value). new ++ xs) (sym (λ t. with_sets sets (drop_all i cols past_cols t) (drop_all i row past_row t))) ∙ so_far
+
+-- the row that was read, and its values after the SETs
+pub sets_of_row : (sets : List SetItem) (cols : List Column) (bytes : List ℕ) (row read new written : List Value) → read ≡ row → written ≡ new → (length read ≡ length cols → new ≡ with_sets sets cols read)
+    → ((r : List Value) → row_of cols bytes ≡ Some r → row ≡ r) → (r : List Value) → row_of cols bytes ≡ Some r → written ≡ with_sets sets cols r
+sets_of_row sets cols bytes row read new written a b made reads r e =
+    let same : read ≡ r = a ∙ reads r e in
+    b ∙ made (ap length same ∙ row_length cols bytes r e) ∙ ap (with_sets sets cols) same

@@ -14,7 +14,7 @@ ghost use Rattle.snap_pages.specs.Shown.{img};
 ghost use Rattle.snap_pages.specs.Slots.{slots_of};
 ghost use Rattle.table_pages.specs.Rows.{is_int_value};
 ghost use Rattle.table_pages.specs.Layout.{place, IsPacked};
-ghost use Rattle.table_pages.specs.Carried.{data_pages, decoded, Holds, Carries, LacksPage, LacksRow, IsFirstEmpty};
+ghost use Rattle.table_pages.specs.Carried.{data_pages, decoded, Holds, Carries, LacksPage, LacksRow, IsFirstEmpty, IsHeaderEdit, IsRowEdit};
 
 use crate::Edit;
 use crate::finding::{blank_page, image, place};
@@ -43,6 +43,7 @@ pub fn plan_create<P: PageFile>(
     requires packed { IsPacked (data_pages pages.now) (slots_of (img pages.now)) }
     requires definition { is_definition cols.now ≡ true }
     ensures none { IfOk result (λ edit. MatchOption edit (LacksPage pages.now name.now cols.now) (λ _. ¬ LacksPage pages.now name.now cols.now)) }
+    ensures edit { IfOk result (λ edit. IfSome edit (IsHeaderEdit pages.now name.now cols.now)) }
     ensures some { IfOk result (λ edit. IfSome edit (λ e. (tables : Tables) → decoded pages.now ≡ Some tables →
         finite.get tables name.now ≡ None → Carries pages.now (e ∷ []) (applied (Add name.now cols.now) tables))) }
 {
@@ -116,6 +117,7 @@ pub fn plan_insert<P: PageFile>(
     requires packed { IsPacked (data_pages pages.now) (slots_of (img pages.now)) }
     requires some { 0 < length row.now }
     ensures none { IfOk result (λ edit. MatchOption edit (LacksRow (img pages.now (place i)) row.now) (λ _. ¬ LacksRow (img pages.now (place i)) row.now)) }
+    ensures edit { IfOk result (λ edit. IfSome edit (IsRowEdit (img pages.now (place i)) (place i) row.now)) }
     ensures some { IfOk result (λ edit. IfSome edit (λ e. (name : List ℕ) (t : Table) (tables : Tables) →
         Holds (img pages.now (place i)) name t → decoded pages.now ≡ Some tables →
         list_all is_int t.cols ≡ true → list_all is_int_value row.now ≡ true → length row.now ≡ length t.cols →

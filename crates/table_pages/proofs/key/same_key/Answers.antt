@@ -13,9 +13,10 @@ pub returns-then-not-same_cell : goal.returns-then-not-same_cell
 returns-then-not-same_cell c = λ read e.
     let r = c.ints_of-ints.ensures read e in
     let cols = c.args.cols.now in
-    let differs = c.same_cell.ensures (length cols) refl r.0 in
-    ((λ wrong. absurd (let w : false ≡ true = wrong in cc)),
-     (λ same. sym c.if-not-same_cell.true ∙ differs.1 (key_cell-same cols (ints_in (length cols) c.ints_of-ints.result.now) c.args.row.now (ap (key_of cols) (sym r.1) ∙ same) c.loop-i.i (omega (arith, c.key_size-i-end.ensures, c.loop-i-test.true)))))
+    let differs = c.same_cell.ensures (length cols) refl r.0 in (
+      (λ wrong. absurd (let w : false ≡ true = wrong in cc)),
+      (λ same. sym c.if-not-same_cell.true ∙ differs.1 (key_cell-same cols (ints_in (length cols) c.ints_of-ints.result.now) c.args.row.now (ap (key_of cols) (sym r.1) ∙ same) c.loop-i.i (omega (arith, c.key_size-i-end.ensures, c.loop-i-test.true)))),
+    )
 
 pub loop-i-preserved : goal.loop-i-preserved
 loop-i-preserved c = λ long.

@@ -1,32 +1,21 @@
-use Rattle.std.proofs.Common.{rules, ◌≡◌, ◌≢◌, ◌<◌, ◌↔◌, ℕ, List, [], length, true, false, map, Some, IsTrue, IfOk, OnOk, ◌+◌, ◌-◌, ◌*◌, ◌≤◌, ◌/◌, ◌%◌, Bool, nat_eq, nat_lt, ◌∷◌, ◌++◌, slice_index_or, slice_set, bit_and, bit_or, Fits, w8, w32, w64, Bor, MutBor}
-use Rattle.std.specs.List.{list_all, list_any}
-use Rattle.page_fmt.specs.Content.{IsPage}
-use Rattle.page_base.specs.declared.numbers.PageId.{PageId}
-use Rattle.page_base.specs.declared.value.Value.{Value}
-use Rattle.plain_model.specs.Tables.{Table, Tables, Put, apply}
-use Rattle.plain_model.specs.Meaning.{literal, is_key_column, set_value, with_sets, updated_rows}
-use Rattle.plain_model.specs.Next.{is_int, is_small_number}
-use Rattle.snap_pages.specs.Shown.{img}
-use Rattle.snap_pages.specs.Slots.{slots_of}
-use Rattle.table_pages.specs.Fitting.{FitInts}
-use Rattle.table_pages.specs.Rows.{row_of, row_bytes}
-use Rattle.table_pages.specs.Plans.{Plans}
-use Rattle.table_pages.specs.Layout.{place, IsPacked}
-use Rattle.table_pages.specs.Carried.{data_pages, decoded, Holds, Carries}
+use Rattle.std.proofs.Common.{refl, sym, ◌∙◌}
+use Rattle.std.proofs.lemmas.Result.{IfOk-weaker}
+use Rattle.table_pages.proofs.SetsLemmas.{set_value-past, set_value-here, set_value-end}
 use Rattle.table_pages.proofs.updating.set_value.Goals as goal
 
--- src/updating.rt:45:5
 pub loop-set-init : goal.loop-set-init
-loop-set-init c = ?
+loop-set-init c = refl
 
--- src/updating.rt:47:13
 pub returns-then-is_same : goal.returns-then-is_same
-returns-then-is_same c = ?
+returns-then-is_same c =
+    c.literal.ensures
+    ∙ sym (c.loop-set.invariant ∙ set_value-here c.args.sets.now c.args.column.now c.args.value.now c.loop-set.set-index c.set-item.result c.loop-set-test.true c.set-item.is (sym c.is_same.ensures.test ∙ c.if-is_same.true))
 
--- src/updating.rt:45:5
 pub loop-set-preserved : goal.loop-set-preserved
-loop-set-preserved c = ?
+loop-set-preserved c =
+    c.loop-set.invariant
+    ∙ set_value-past c.args.sets.now c.args.column.now c.args.value.now c.loop-set.set-index c.set-item.result c.loop-set-test.true c.set-item.is (sym c.is_same.ensures.test ∙ c.if-is_same.false)
 
--- src/updating.rt:41:1
 pub returns : goal.returns
-returns c = ?
+returns c = IfOk-weaker c.copy.result _ _
+    (λ v is. is ∙ sym (c.loop-set.invariant ∙ set_value-end c.args.sets.now c.args.column.now c.args.value.now c.loop-set.set-index c.loop-set-test.false)) c.copy.ensures

@@ -1,24 +1,16 @@
-use Rattle.std.proofs.Common.{rules, ◌≡◌, ◌≢◌, ◌<◌, ◌↔◌, ℕ, List, [], length, true, false, map, Some, IsTrue, IfOk, OnOk, ◌+◌, ◌-◌, ◌*◌, ◌≤◌, ◌/◌, ◌%◌, Bool, nat_eq, nat_lt, ◌∷◌, ◌++◌, slice_index_or, slice_set, bit_and, bit_or, Fits, w8, w32, w64, Bor, MutBor}
-use Rattle.std.specs.List.{list_all, list_any}
-use Rattle.page_fmt.specs.Content.{IsPage}
-use Rattle.page_base.specs.declared.numbers.PageId.{PageId}
-use Rattle.page_base.specs.declared.value.Value.{Value}
-use Rattle.plain_model.specs.Tables.{Table, Tables, Put, apply}
-use Rattle.plain_model.specs.Meaning.{literal, is_key_column, set_value, with_sets, updated_rows}
-use Rattle.plain_model.specs.Next.{is_int, is_small_number}
-use Rattle.snap_pages.specs.Shown.{img}
-use Rattle.snap_pages.specs.Slots.{slots_of}
+use Rattle.std.proofs.Common.{◌∙◌, ap, sym, subst}
+use Rattle.std.proofs.lemmas.Result.{IfOk-weaker, on_ok_weaker}
+use Rattle.table_pages.specs.Rows.{row_bytes}
 use Rattle.table_pages.specs.Fitting.{FitInts}
-use Rattle.table_pages.specs.Rows.{row_of, row_bytes}
-use Rattle.table_pages.specs.Plans.{Plans}
-use Rattle.table_pages.specs.Layout.{place, IsPacked}
-use Rattle.table_pages.specs.Carried.{data_pages, decoded, Holds, Carries}
+use Rattle.table_pages.proofs.SetsLemmas.{sets_of_row}
 use Rattle.table_pages.proofs.updating.updated_bytes.Goals as goal
 
--- src/updating.rt:66:1
 pub returns-clause-bytes : goal.returns-clause-bytes
-returns-clause-bytes c = ?
+returns-clause-bytes c = IfOk-weaker c.row_bytes.result _ _
+    (λ new is row e. is ∙ ap row_bytes (sets_of_row c.args.sets.now c.args.cols.now c.args.bytes.now c.in_ok-row.row c.as_slice.result.now c.in_ok-new.new c.as_slice-2.result.now c.as_slice.ensures c.as_slice-2.ensures c.in_ok-new.ensures c.in_ok-row.ensures row e))
+    c.row_bytes.ensures.bytes
 
--- src/updating.rt:66:1
 pub returns-clause-fits : goal.returns-clause-fits
-returns-clause-fits c = ?
+returns-clause-fits c = on_ok_weaker c.row_bytes.result
+    (λ fits row e. subst FitInts (sets_of_row c.args.sets.now c.args.cols.now c.args.bytes.now c.in_ok-row.row c.as_slice.result.now c.in_ok-new.new c.as_slice-2.result.now c.as_slice.ensures c.as_slice-2.ensures c.in_ok-new.ensures c.in_ok-row.ensures row e) fits)
+    c.row_bytes.ensures.fits

@@ -1,28 +1,21 @@
-use Rattle.std.proofs.Common.{rules, ◌≡◌, ◌≢◌, ◌<◌, ◌↔◌, ℕ, List, [], length, true, false, map, Some, IsTrue, IfOk, OnOk, ◌+◌, ◌-◌, ◌*◌, ◌≤◌, ◌/◌, ◌%◌, Bool, nat_eq, nat_lt, ◌∷◌, ◌++◌, slice_index_or, slice_set, bit_and, bit_or, Fits, w8, w32, w64, Bor, MutBor}
-use Rattle.std.specs.List.{list_all, list_any}
-use Rattle.page_fmt.specs.Content.{IsPage}
-use Rattle.page_base.specs.declared.numbers.PageId.{PageId}
+use Rattle.std.proofs.Common.{◌<◌, ◌∙◌, ◌++◌, ◌∷◌, [], List, length, ap, arith}
 use Rattle.page_base.specs.declared.value.Value.{Value}
-use Rattle.plain_model.specs.Tables.{Table, Tables, Put, apply}
-use Rattle.plain_model.specs.Meaning.{literal, is_key_column, set_value, with_sets, updated_rows}
-use Rattle.plain_model.specs.Next.{is_int, is_small_number}
-use Rattle.snap_pages.specs.Shown.{img}
-use Rattle.snap_pages.specs.Slots.{slots_of}
-use Rattle.table_pages.specs.Fitting.{FitInts}
-use Rattle.table_pages.specs.Rows.{row_of, row_bytes}
-use Rattle.table_pages.specs.Plans.{Plans}
-use Rattle.table_pages.specs.Layout.{place, IsPacked}
-use Rattle.table_pages.specs.Carried.{data_pages, decoded, Holds, Carries}
+use Rattle.plain_model.specs.Meaning.{with_sets}
+use Rattle.table_pages.proofs.SetsLemmas.{with_sets-more, with_sets-end}
 use Rattle.table_pages.proofs.updating.with_sets.Goals as goal
 
--- src/updating.rt:59:5
-pub loop-column-init : goal.loop-column-init
-loop-column-init c = ?
+pub loop-i-init : goal.loop-i-init
+loop-i-init c = ap (λ (xs : List Value). xs ++ with_sets c.args.sets.now c.args.cols.now c.args.row.now) c.new-new.ensures
 
--- src/updating.rt:59:5
-pub loop-column-preserved : goal.loop-column-preserved
-loop-column-preserved c = ?
+pub loop-i-preserved : goal.loop-i-preserved
+loop-i-preserved c =
+    let lt = c.loop-i-test.true in
+    let n = c.min-i-end.ensures in
+    with_sets-more c.args.sets.now c.args.cols.now c.args.row.now c.loop-i.new c.push.new.self _ c.loop-i.i c.index-cols-i.result c.index-row-i.result (omega arith) (omega arith) c.index-cols-i.is c.index-row-i.is c.loop-i.invariant
+    (c.in_ok-push.ensures.ok ∙ ap (λ (v : Value). c.loop-i.new ++ v ∷ []) c.in_ok-set_value.ensures)
 
--- src/updating.rt:54:1
 pub returns : goal.returns
-returns c = ?
+returns c = λ same.
+    let past = c.loop-i-test.false in
+    let n = c.min-i-end.ensures in
+    with_sets-end c.args.sets.now c.args.cols.now c.args.row.now c.loop-i.new _ c.loop-i.i (omega arith) (omega arith) c.loop-i.invariant
