@@ -1,7 +1,7 @@
 -- Decisions of each kind.
 use Rattle.std.proofs.Common.{◌≡◌, ◌≢◌, ◌+◌, ◌<◌, ◌≤◌, ◌⊎◌, inl, inr, ℕ, Bool, true, false, ◌&&◌, nat_eq, nat_le, cond, List, [], ◌∷◌, length, map, refl, ap, sym, ◌∙◌, subst, arith}
-use Rattle.std.specs.Prelude.{Option, Some, None, ◌==◌, unwrap_or}
-use Rattle.std.specs.List.{list_all}
+use Rattle.std.specs.Prelude.{Option, Some, None, ◌==◌, unwrap_or, is_none}
+use Rattle.std.specs.List.{list_all, list_any}
 use Rattle.std.specs.Ordering.{nat_cmp, is_eq}
 use Rattle.std.specs.Cmp.Lexicographic.{slice_cmp, nat_list_cmp_total}
 use Rattle.std.specs.declared.cmp.Ordering.{Ordering}
@@ -14,11 +14,14 @@ use Rattle.plain_model.specs.declared.stmt.Stmt.TheVariants.{CreateTable, Insert
 use Rattle.plain_model.specs.declared.stmt.InsertStmt.{InsertStmt}
 use Rattle.plain_model.specs.declared.stmt.SelectStmt.{SelectStmt}
 use Rattle.plain_model.specs.Sound.{is_definition}
-use Rattle.plain_model.specs.Meaning.{plain, at_place, literal, new_rows, shown_rows, first_clash, create_shape, insert_shape, select_shape, shape, insert_data, change_and_reply}
-use Rattle.plain_model.specs.Next.{is_int, is_built}
+use Rattle.plain_model.specs.declared.stmt.UpdateStmt.{UpdateStmt}
+use Rattle.plain_model.specs.declared.stmt.SetItem.{SetItem}
+use Rattle.plain_model.specs.Meaning.{has_column, is_key_column, update_shape, updated_rows, with_sets, plain, at_place, literal, new_rows, shown_rows, first_clash, create_shape, insert_shape, select_shape, shape, insert_data, change_and_reply}
+use Rattle.plain_model.specs.Next.{is_int, is_built, is_small_number, is_one_set}
 use Rattle.table_pages.specs.declared.edit.Edit.{Edit}
 use Rattle.engine_core.specs.declared.answer.Answer.TheVariants.{AtOnce, UnderAll, UnderTable}
-use Rattle.engine_core.proofs.Coming.{of_insert, of_select, shape_comes, reply_comes, room_comes, taken_comes, made_comes, full_comes}
+use Rattle.engine_core.proofs.Stepping.{both}
+use Rattle.engine_core.proofs.Coming.{of_insert, of_select, of_update, shape_comes, reply_comes, room_comes, taken_comes, made_comes, full_comes}
 use Rattle.std.specs.FinMap as finite
 use Rattle.page_base.specs.declared.column.Column.{Column}
 use Rattle.page_base.specs.declared.value.Value.{Value}
@@ -164,3 +167,55 @@ module _ (opening : Opening) (v : Shown) (seen : Seen) (setting : Setting openin
 -- the same decision
 pub is_same : (opening : Opening) (current : List ℕ) (v : Shown) (seen : Seen) (stmt : Stmt) (d e : Decision) → d ≡ e → IsDecision opening current v seen stmt e → IsDecision opening current v seen stmt d
 is_same opening current v seen stmt d e is h = subst (λ (x : Decision). IsDecision opening current v seen stmt x) (sym is) h
+
+-- UPDATE OF ALL ROWS
+
+ints_put : (tables : Tables) (name : List ℕ) (row : List Value) → AreInts tables → AreInts (applied (Put name row) tables)
+ints_put tables name row ints = go (finite.get tables name) refl
+  where
+    go : (o : Option Table) → finite.get tables name ≡ o → AreInts (changed tables name (finite.get tables name) (with_row row))
+    go None e = subst AreInts (sym (ap (λ o. changed tables name o (with_row row)) e)) ints
+    go (Some t) e = let mine = ints name t e in subst AreInts (sym (ap (λ o. changed tables name o (with_row row)) e)) (ints_insert tables name (with_row row t) ints mine.0 mine.1)
+
+pub ints_puts : (name : List ℕ) (rows : List (List Value)) (tables : Tables) → AreInts tables → AreInts (apply (map (Put name) rows) tables)
+ints_puts name [] tables ints = ints
+ints_puts name (row ∷ rows) tables ints = ints_puts name rows (applied (Put name row) tables) (ints_put tables name row ints)
+
+module _ (opening : Opening) (v : Shown) (seen : Seen) (setting : Setting opening opening.source v seen) (u : UpdateStmt) (b : is_built (Update u) ≡ true) where
+  pub update_none : finite.get seen.source u.table ≡ None → IsDecision opening opening.source v seen (Update u) (record { answer = UnderAll S (Msg (plain 208)); edits = [] })
+  update_none none = decides_only opening opening.source opening.source v seen (Update u) (UnderAll S (Msg (plain 208))) setting refl tt
+      (shape_comes opening opening.source seen (snaps_of v) refl (Update u) u.table X (of_update u b) (plain 208) (ap (update_shape u) none))
+
+  module _ (t : Table) (there : finite.get seen.source u.table ≡ Some t) where
+    pub update_missing : list_all (λ i. has_column t.cols i.col) u.sets ≡ false → IsDecision opening opening.source v seen (Update u) (record { answer = UnderAll S (Msg (plain 207)); edits = [] })
+    update_missing e = decides_only opening opening.source opening.source v seen (Update u) (UnderAll S (Msg (plain 207))) setting refl tt
+        (shape_comes opening opening.source seen (snaps_of v) refl (Update u) u.table X (of_update u b) (plain 207) (ap (update_shape u) there ∙ (rw e refl)))
+
+    module _ (all : list_all (λ i. has_column t.cols i.col) u.sets ≡ true) where
+      pub update_key : list_any (λ i. is_key_column t.cols i.col) u.sets ≡ true → IsDecision opening opening.source v seen (Update u) (record { answer = UnderAll S (Msg (plain 60012)); edits = [] })
+      update_key e = decides_only opening opening.source opening.source v seen (Update u) (UnderAll S (Msg (plain 60012))) setting refl tt
+          (shape_comes opening opening.source seen (snaps_of v) refl (Update u) u.table X (of_update u b) (plain 60012) (ap (update_shape u) there ∙ (rw (all, e) refl)))
+
+      pub update_made : (edits : List Edit) (count : ℕ) → list_any (λ i. is_key_column t.cols i.col) u.sets ≡ false → count ≡ length (rows_of t) → Carries v edits (apply (map (Put u.table) (updated_rows u.sets t)) seen.source) →
+          IsDecision opening opening.source v seen (Update u) (record { answer = UnderTable u.table X (Count count); edits = edits })
+      update_made edits count keyless counted plan =
+          let shaped : shape (Update u) seen.source ≡ None = ap (update_shape u) there ∙ (rw (all, keyless) refl) in
+          let meant : change_and_reply (Update u) seen.source ≡ (map (Put u.table) (updated_rows u.sets t), Count (length (updated_rows u.sets t))) =
+            ap (λ o. let x = updated_rows u.sets (unwrap_or o (record { cols = []; rows = finite.empty })) in (map (Put u.table) x, Count (length x))) there in
+          let replied : (change_and_reply (Update u) seen.source).1 ≡ Count count = ap (λ (r : List Change × Reply). r.1) meant ∙ ap Count (length-map (rows_of t) (with_sets u.sets t.cols) ∙ sym counted) in
+          let changes : tables_after (Update u) (Count count) seen.source ≡ apply (map (Put u.table) (updated_rows u.sets t)) seen.source = ap (λ (r : List Change × Reply). apply r.0 seen.source) meant in
+          record {
+            comes = reply_comes opening opening.source seen (snaps_of v) refl (Update u) u.table X (of_update u b) (Count count) shaped replied;
+            simple = tt;
+            carries = subst (λ (x : Tables). Carries v edits x) (sym changes) plan;
+            ints = subst AreInts (sym changes) (ints_puts u.table (updated_rows u.sets t) seen.source setting.ints);
+          }
+
+-- one set of a number
+pub small_sets : (u : UpdateStmt) → is_built (Update u) ≡ true → list_all (λ s. is_small_number s.to) u.sets ≡ true
+small_sets u b = one u.sets (both (is_none u.filter) (is_one_set u.sets) b).1
+  where
+    one : (sets : List SetItem) → is_one_set sets ≡ true → list_all (λ s. is_small_number s.to) sets ≡ true
+    one [] e = refl
+    one (s ∷ []) e = rw e refl
+    one (s ∷ x ∷ xs) e = absurd (let w : false ≡ true = e in cc)
