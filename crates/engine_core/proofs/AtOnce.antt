@@ -25,34 +25,13 @@ use Rattle.snap_pages.specs.Catalog.{Catalog, snap_at, HasSnap, IsCatalog, Lacks
 use Rattle.engine_core.specs.declared.answer.Answer.TheVariants.{AtOnce}
 use Rattle.engine_core.specs.declared.database.Database.{Database}
 use Rattle.engine_core.specs.declared.database.Database.TheVariants.{Source, Master, Snap, Absent}
-use Rattle.engine_core.specs.Databases.{Means}
+use Rattle.engine_core.specs.Databases.{Means, is_lost, is_there, is_home, is_shot}
 use Rattle.engine_core.specs.Deciding.{AreApart}
 use Rattle.engine_core.specs.Pushing as pushing
 use Rattle.engine_core.specs.Ready.{Seen, Ready, Comes}
 use Rattle.engine_core.proofs.PushLemmas.{bytes_same}
 use Rattle.engine_core.proofs.Coming.{not_built, built}
 use Rattle.engine_core.proofs.Placed.{snaps, lacks_snap, lacks_lost, has_snap, has_state}
-
--- whether the database is a suspect snapshot
-abbrev pub is_lost : Catalog → Database → Bool
-is_lost cat Source = false
-is_lost cat Master = false
-is_lost cat (Snap s) = pushing.is_suspect (snap_at cat s).state
-is_lost cat Absent = false
-
-abbrev pub is_there : Database → Bool
-is_there Source = true
-is_there Master = true
-is_there (Snap s) = true
-is_there Absent = false
-
-abbrev pub is_home : Database → Bool
-is_home Source = true
-is_home db = false
-
-abbrev pub is_shot : Database → Bool
-is_shot (Snap s) = true
-is_shot db = false
 
 or_true : (b : Bool) → (b || true) ≡ true
 or_true true = refl

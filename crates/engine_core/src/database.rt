@@ -1,11 +1,12 @@
 //! Which database a name means.
 
+ghost use Rattle.std.specs.Prelude.{◌≡◌};
 ghost use Rattle.snap_pages.specs.Shown.{catalog};
-ghost use Rattle.engine_core.specs.Databases.{Means};
+ghost use Rattle.engine_core.specs.Databases.{Means, IsPlaced, is_lost};
 
 use page_base::{Name, SnapNo};
 use page_dev::PageFile;
-use snap_pages::SnapPages;
+use snap_pages::{SnapPages, SnapState};
 
 /// A database: the source, `master`, a snapshot by its place, or none.
 #[derive(Clone, Copy, Debug, PartialEq, Eq)]
@@ -18,7 +19,8 @@ pub(crate) enum Database {
 
 /// The database of this name. Takes no memory.
 pub(crate) fn find_database<P: PageFile>(pages: &SnapPages<P>, source: &Name, name: &Name) -> Database
-    ensures { Means source.now (catalog pages.now) name.now result }
+    ensures means { Means source.now (catalog pages.now) name.now result }
+    ensures placed { IsPlaced (catalog pages.now) result }
 {
     if name.is_same(source) {
         return Database::Source;
@@ -29,5 +31,16 @@ pub(crate) fn find_database<P: PageFile>(pages: &SnapPages<P>, source: &Name, na
     match pages.cat().find(name) {
         Some(s) => Database::Snap(s),
         None => Database::Absent,
+    }
+}
+
+/// Whether the database is a suspect snapshot. Takes no memory.
+pub(crate) fn is_lost<P: PageFile>(pages: &SnapPages<P>, db: Database) -> bool
+    requires { IsPlaced (catalog pages.now) db }
+    ensures { result ≡ is_lost (catalog pages.now) db }
+{
+    match db {
+        Database::Snap(s) => pages.cat().state(s) == SnapState::Suspect,
+        _ => false,
     }
 }

@@ -23,14 +23,12 @@ ghost use Rattle.engine_core.specs.Deciding.{Setting, IsDecision};
 ghost use Rattle.engine_core.specs.declared.database.Database.TheVariants.{Source};
 
 use crate::answer::Answer;
-use crate::database::{Database, find_database};
 use crate::decision::{Decision, only};
-use crate::literals::{are_ints, is_one_set, is_whole, new_row};
 use crate::refusal::{refused, refused_at};
 use page_base::{Column, Columns, Mode, Name, NoMemory, Row};
 use page_dev::PageFile;
-use plain_model::{InsertStmt, Reply, SelectStmt, SetList, Stmt, UpdateStmt};
-use snap_pages::{SnapPages, SnapState};
+use plain_model::{Reply, SelectStmt, SetList, UpdateStmt};
+use snap_pages::SnapPages;
 use std::alloc::Global;
 use table_pages::{Edit, EditList, columns, find, has_key, place, plan_create, plan_insert, plan_update, read_table};
 
@@ -44,7 +42,7 @@ fn with_edit(alloc: Global, answer: Answer, edit: Edit) -> Result<Decision, NoMe
 }
 
 // CREATE TABLE in the source, of columns that are a good definition
-fn create_in_source<P: PageFile>(
+pub(crate) fn create_in_source<P: PageFile>(
     alloc: Global,
     pages: &SnapPages<P>,
     name: &Name,
@@ -107,7 +105,7 @@ fn insert_row<P: PageFile>(
 }
 
 // INSERT of this row in the source
-fn insert_in_source<P: PageFile>(
+pub(crate) fn insert_in_source<P: PageFile>(
     alloc: Global,
     pages: &SnapPages<P>,
     name: Name,
@@ -131,7 +129,7 @@ fn insert_in_source<P: PageFile>(
 }
 
 // SELECT of whole rows in the source
-fn select_in_source<P: PageFile>(
+pub(crate) fn select_in_source<P: PageFile>(
     alloc: Global,
     pages: &SnapPages<P>,
     stmt: &SelectStmt,
@@ -204,7 +202,7 @@ fn update_rows<P: PageFile>(
 }
 
 // UPDATE in the source
-fn update_in_source<P: PageFile>(
+pub(crate) fn update_in_source<P: PageFile>(
     alloc: Global,
     pages: &SnapPages<P>,
     stmt: &UpdateStmt,

@@ -2,6 +2,7 @@
 #![tactic(auto)]
 
 mod answer;
+mod choosing;
 mod course;
 mod database;
 mod deciding;

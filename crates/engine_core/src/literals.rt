@@ -1,14 +1,14 @@
 //! Which statements are built so far, and the values of their literals.
 
-ghost use Rattle.std.specs.Prelude.{◌≡◌, ◌∷◌, [], true, false, map, is_some, IfOk, IfSome, MatchOption};
+ghost use Rattle.std.specs.Prelude.{◌≡◌, ◌∷◌, [], true, map, IfOk};
 ghost use Rattle.std.specs.List.{list_all};
-ghost use Rattle.page_base.specs.declared.value.Value.TheVariants.{Int};
 ghost use Rattle.plain_model.specs.declared.stmt.Stmt.TheVariants.{Insert, Select, Update};
 ghost use Rattle.plain_model.specs.Meaning.{literal, new_rows};
 ghost use Rattle.plain_model.specs.Next.{is_built, is_int, is_small_number};
+ghost use Rattle.table_pages.specs.Rows.{is_int_value};
 
 use page_base::{ColType, Column, NoMemory, Row, Value};
-use plain_model::{Expr, InsertStmt, Items, SelectStmt, UpdateStmt};
+use plain_model::{Expr, ExprList, InsertStmt, Items, SelectStmt, UpdateStmt};
 use std::alloc::Global;
 
 fn is_int(column: &Column) -> bool
@@ -24,43 +24,67 @@ pub(crate) fn are_ints(cols: &[Column]) -> bool
     cols.iter().all(is_int)
 }
 
-// The value of a number literal that an INT column takes.
-fn small_number(entry: &Expr) -> Option<i32>
-    ensures there { is_some result ≡ is_small_number entry.now }
-    ensures value { IfSome result (λ n. Int n ≡ literal entry.now) }
+// Whether an entry is a number literal that an INT column takes.
+fn is_small_number(entry: &Expr) -> bool
+    ensures { result ≡ is_small_number entry.now }
 {
     match entry {
-        Expr::Number(number) => i32::try_from(*number).ok(),
-        _ => None,
+        Expr::Number(number) => i32::try_from(*number).is_ok(),
+        _ => false,
     }
 }
 
-// The values of number literals, where they are all such.
-fn literals(alloc: Global, entries: &[Expr]) -> Result<Option<Row>, NoMemory>
-    ensures { IfOk result (λ row. MatchOption row (list_all is_small_number entries.now ≡ false)
-        (λ row. (list_all is_small_number entries.now ≡ true) × (row ≡ map literal entries.now))) }
+// The value of a number literal that an INT column takes.
+fn literal(entry: &Expr) -> Value
+    requires { is_small_number entry.now ≡ true }
+    ensures value { result ≡ literal entry.now }
+    ensures int { is_int_value result ≡ true }
+{
+    match entry {
+        Expr::Number(number) => Value::Int(*number as i32),
+        _ => Value::Int(0),
+    }
+}
+
+// The values of number literals.
+fn literals(alloc: Global, entries: &[Expr]) -> Result<Row, NoMemory>
+    requires { list_all is_small_number entries.now ≡ true }
+    ensures values { IfOk result (λ row. row ≡ map literal entries.now) }
+    ensures ints { IfOk result (λ row. list_all is_int_value row ≡ true) }
 {
     let mut row = Row::new(alloc);
     for entry in entries {
-        let Some(number) = small_number(entry) else {
-            return Ok(None);
-        };
-        row.push(Value::Int(number))?;
+        row.push(literal(entry))?;
     }
-    Ok(Some(row))
+    Ok(row)
 }
 
-/// The one row of an INSERT, where it is one that is built so far.
-pub(crate) fn new_row(alloc: Global, stmt: &InsertStmt) -> Result<Option<Row>, NoMemory>
-    ensures { IfOk result (λ row. MatchOption row (is_built (Insert stmt.now) ≡ false)
-        (λ row. (is_built (Insert stmt.now) ≡ true) × (new_rows stmt.now ≡ row ∷ []))) }
+// Whether all entries of a row are such literals.
+fn are_small_numbers(entries: &ExprList) -> bool
+    ensures { result ≡ list_all is_small_number entries.now }
 {
-    if !stmt.cols.is_empty() {
-        return Ok(None);
+    entries.as_slice().iter().all(is_small_number)
+}
+
+/// Whether an INSERT is one of one row of numbers for all columns.
+pub(crate) fn is_one_row(stmt: &InsertStmt) -> bool
+    ensures { result ≡ is_built (Insert stmt.now) }
+{
+    match stmt.rows.as_slice() {
+        [entries] => stmt.cols.is_empty() && are_small_numbers(entries),
+        _ => false,
     }
+}
+
+/// The one row of an INSERT.
+pub(crate) fn new_row(alloc: Global, stmt: &InsertStmt) -> Result<Row, NoMemory>
+    requires { is_built (Insert stmt.now) ≡ true }
+    ensures row { IfOk result (λ row. new_rows stmt.now ≡ row ∷ []) }
+    ensures ints { IfOk result (λ row. list_all is_int_value row ≡ true) }
+{
     match stmt.rows.as_slice() {
         [entries] => literals(alloc, entries.as_slice()),
-        _ => Ok(None),
+        _ => Ok(Row::new(alloc)),
     }
 }
 
@@ -76,7 +100,7 @@ pub(crate) fn is_one_set(stmt: &UpdateStmt) -> bool
     ensures { result ≡ is_built (Update stmt.now) }
 {
     match stmt.sets.as_slice() {
-        [set] => stmt.filter.is_none() && small_number(&set.to).is_some(),
+        [set] => stmt.filter.is_none() && is_small_number(&set.to),
         _ => false,
     }
 }

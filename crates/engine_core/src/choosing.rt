@@ -1,0 +1,165 @@
+//! Which course a statement takes, by its kind and by its session's current database.
+
+ghost use Rattle.std.specs.Prelude.{◌≡◌, ◌<◌, ℕ, List, [], true, IfOk, MatchResult, if◌then◌else◌};
+ghost use Rattle.page_base.specs.declared.numbers.PageId.{PageId};
+ghost use Rattle.page_fmt.specs.Content.{IsPage};
+ghost use Rattle.plain_model.specs.declared.stmt.Stmt.TheVariants.{UseDb, CreateTable, Insert, Select, Update};
+ghost use Rattle.plain_model.specs.Journal.{Opening};
+ghost use Rattle.plain_model.specs.Sound.{is_sound, are_columns};
+ghost use Rattle.plain_model.specs.Next.{is_built};
+ghost use Rattle.snap_pages.specs.Shown.{img, catalog};
+ghost use Rattle.snap_pages.specs.Slots.{slots_of};
+ghost use Rattle.table_pages.specs.Layout.{IsPacked};
+ghost use Rattle.table_pages.specs.Carried.{data_pages};
+ghost use Rattle.plain_model.specs.declared.reply.Reply.TheVariants.{Msg};
+ghost use Rattle.plain_model.specs.Meaning.{plain};
+ghost use Rattle.engine_core.specs.declared.answer.Answer.TheVariants.{AtOnce};
+ghost use Rattle.engine_core.specs.Databases.{IsPlaced, is_lost};
+ghost use Rattle.engine_core.specs.Ready.{Seen};
+ghost use Rattle.engine_core.specs.Deciding.{Setting, IsDecision, Decides, IsCourse};
+ghost use Rattle.engine_core.specs.declared.database.Database.TheVariants.{Source};
+
+use crate::answer::Answer;
+use crate::course::Course;
+use crate::database::{Database, find_database, is_lost};
+use crate::deciding::{create_in_source, insert_in_source, select_in_source, update_in_source};
+use crate::decision::{Decision, only};
+use crate::literals::{are_ints, is_one_row, is_one_set, is_whole, new_row};
+use crate::refusal::{refused, refused_at};
+use page_base::{Columns, Name, NoMemory};
+use page_dev::PageFile;
+use plain_model::{InsertStmt, Reply, SelectStmt, Stmt, UpdateStmt};
+use snap_pages::SnapPages;
+use std::alloc::Global;
+
+// The decision, or 701 for want of memory.
+fn or_no_memory(alloc: Global, decision: Result<Decision, NoMemory>) -> Decision
+    ensures { MatchResult decision (λ d. result ≡ d) (λ _. result ≡ record { answer = AtOnce (Msg (plain 701)); edits = [] }) }
+{
+    match decision {
+        Ok(decision) => decision,
+        Err(_) => only(alloc, Answer::AtOnce(refused(701))),
+    }
+}
+
+// A refusal at once.
+fn at_once(alloc: Global, number: u32) -> Decision
+    ensures { result ≡ record { answer = AtOnce (Msg (plain number)); edits = [] } }
+{
+    only(alloc, Answer::AtOnce(refused(number)))
+}
+
+// A statement that changes tables, where the current database isn't the source.
+fn refused_outside<P: PageFile>(alloc: Global, pages: &SnapPages<P>, db: Database) -> Decision
+    requires { IsPlaced (catalog pages.now) db }
+    ensures { result ≡ record { answer = AtOnce (Msg (if is_lost (catalog pages.now) db then plain 926 else plain 3906)); edits = [] } }
+{
+    if is_lost(pages, db) {
+        at_once(alloc, 926)
+    } else {
+        at_once(alloc, 3906)
+    }
+}
+
+// CREATE TABLE
+fn create<P: PageFile>(
+    alloc: Global,
+    pages: &SnapPages<P>,
+    db: Database,
+    name: &Name,
+    cols: &Columns,
+) -> Decision
+    requires few { data_pages pages.now < 4294967295 }
+    requires pages { (p : PageId) → IsPage (img pages.now p) }
+    requires packed { IsPacked (data_pages pages.now) (slots_of (img pages.now)) }
+    requires placed { IsPlaced (catalog pages.now) db }
+    requires sound { are_columns cols.now ≡ true }
+    ensures { Decides pages.now db (CreateTable name.now cols.now) result }
+{
+    if !are_ints(cols.as_slice()) {
+        return at_once(alloc, 60098);
+    }
+    if db != Database::Source {
+        return refused_outside(alloc, pages, db);
+    }
+    if cols.is_empty() {
+        return at_once(alloc, 60016);
+    }
+    or_no_memory(alloc, create_in_source(alloc, pages, name, cols))
+}
+
+// The decision on an INSERT in the source.
+fn insert_one<P: PageFile>(
+    alloc: Global,
+    pages: &SnapPages<P>,
+    stmt: &InsertStmt,
+) -> Result<Decision, NoMemory>
+    requires few { data_pages pages.now < 4294967295 }
+    requires pages { (p : PageId) → IsPage (img pages.now p) }
+    requires packed { IsPacked (data_pages pages.now) (slots_of (img pages.now)) }
+    requires built { is_built (Insert stmt.now) ≡ true }
+    ensures { IfOk result (λ d. (opening : Opening) (seen : Seen) → Setting opening opening.source pages.now seen →
+        IsDecision opening opening.source pages.now seen (Insert stmt.now) d) }
+{
+    let row = new_row(alloc, stmt)?;
+    insert_in_source(alloc, pages, stmt.table, &row)
+}
+
+// INSERT
+fn insert<P: PageFile>(
+    alloc: Global,
+    pages: &SnapPages<P>,
+    db: Database,
+    stmt: &InsertStmt,
+) -> Decision
+    requires few { data_pages pages.now < 4294967295 }
+    requires pages { (p : PageId) → IsPage (img pages.now p) }
+    requires packed { IsPacked (data_pages pages.now) (slots_of (img pages.now)) }
+    requires placed { IsPlaced (catalog pages.now) db }
+    ensures { Decides pages.now db (Insert stmt.now) result }
+{
+    if !is_one_row(stmt) {
+        return at_once(alloc, 60098);
+    }
+    if db != Database::Source {
+        return refused_outside(alloc, pages, db);
+    }
+    or_no_memory(alloc, insert_one(alloc, pages, stmt))
+}
+
+// UPDATE
+fn update<P: PageFile>(
+    alloc: Global,
+    pages: &SnapPages<P>,
+    db: Database,
+    stmt: &UpdateStmt,
+) -> Decision
+    requires few { data_pages pages.now < 4294967295 }
+    requires pages { (p : PageId) → IsPage (img pages.now p) }
+    requires packed { IsPacked (data_pages pages.now) (slots_of (img pages.now)) }
+    requires placed { IsPlaced (catalog pages.now) db }
+    ensures { Decides pages.now db (Update stmt.now) result }
+{
+    if !is_one_set(stmt) {
+        return at_once(alloc, 60098);
+    }
+    if db != Database::Source {
+        return refused_outside(alloc, pages, db);
+    }
+    or_no_memory(alloc, update_in_source(alloc, pages, stmt))
+}
+
+// USE
+fn enter<P: PageFile>(alloc: Global, pages: &SnapPages<P>, source: &Name, name: &Name) -> Decision
+    ensures { (opening : Opening) (current : List ℕ) (seen : Seen) → Setting opening source.now pages.now seen →
+        IsDecision opening current pages.now seen (UseDb name.now) result }
+{
+    let db = find_database(pages, source, name);
+    if db == Database::Absent {
+        return at_once(alloc, 911);
+    }
+    if is_lost(pages, db) {
+        return at_once(alloc, 926);
+    }
+    only(alloc, Answer::AtOnce(Reply::Ok))
+}
