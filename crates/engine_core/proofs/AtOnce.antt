@@ -37,7 +37,7 @@ or_true : (b : Bool) → (b || true) ≡ true
 or_true true = refl
 or_true false = refl
 
-eq_is : (a b : List ℕ) → bytes_eq a b ≡ true → a ≡ b
+pub eq_is : (a b : List ℕ) → bytes_eq a b ≡ true → a ≡ b
 eq_is a b e = (bytes_eq-Decides a b).0 e
 
 module _ (opening : Opening) (cat : Catalog) (wf : IsCatalog cat) (apart : AreApart opening.source cat) (st : Plain) (opened : st.opening ≡ opening) (is : st.snaps ≡ snaps cat master) where

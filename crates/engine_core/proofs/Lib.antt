@@ -8,3 +8,4 @@ mod AtOnce
 mod EditLemmas
 mod SeeLemmas
 mod Decisions
+mod Choices

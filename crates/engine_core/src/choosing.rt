@@ -14,14 +14,14 @@ ghost use Rattle.table_pages.specs.Carried.{data_pages};
 ghost use Rattle.plain_model.specs.declared.reply.Reply.TheVariants.{Msg};
 ghost use Rattle.plain_model.specs.Meaning.{plain};
 ghost use Rattle.engine_core.specs.declared.answer.Answer.TheVariants.{AtOnce};
-ghost use Rattle.engine_core.specs.Databases.{IsPlaced, is_lost};
+ghost use Rattle.engine_core.specs.Databases.{Means, IsPlaced, is_lost};
 ghost use Rattle.engine_core.specs.Ready.{Seen};
 ghost use Rattle.engine_core.specs.Deciding.{Setting, IsDecision, Decides, IsCourse};
 ghost use Rattle.engine_core.specs.declared.database.Database.TheVariants.{Source};
 
 use crate::answer::Answer;
 use crate::course::Course;
-use crate::database::{Database, find_database, is_lost};
+use crate::database::{Database, find_database, is_home, is_lost, is_there};
 use crate::deciding::{create_in_source, insert_in_source, select_in_source, update_in_source};
 use crate::decision::{Decision, only};
 use crate::literals::{are_ints, is_one_row, is_one_set, is_whole, new_row};
@@ -79,7 +79,7 @@ fn create<P: PageFile>(
     if !are_ints(cols.as_slice()) {
         return at_once(alloc, 60098);
     }
-    if db != Database::Source {
+    if !is_home(db) {
         return refused_outside(alloc, pages, db);
     }
     if cols.is_empty() {
@@ -121,7 +121,7 @@ fn insert<P: PageFile>(
     if !is_one_row(stmt) {
         return at_once(alloc, 60098);
     }
-    if db != Database::Source {
+    if !is_home(db) {
         return refused_outside(alloc, pages, db);
     }
     or_no_memory(alloc, insert_one(alloc, pages, stmt))
@@ -143,7 +143,7 @@ fn update<P: PageFile>(
     if !is_one_set(stmt) {
         return at_once(alloc, 60098);
     }
-    if db != Database::Source {
+    if !is_home(db) {
         return refused_outside(alloc, pages, db);
     }
     or_no_memory(alloc, update_in_source(alloc, pages, stmt))
@@ -151,15 +151,71 @@ fn update<P: PageFile>(
 
 // USE
 fn enter<P: PageFile>(alloc: Global, pages: &SnapPages<P>, source: &Name, name: &Name) -> Decision
-    ensures { (opening : Opening) (current : List ℕ) (seen : Seen) → Setting opening source.now pages.now seen →
+    ensures { (opening : Opening) (current : List ℕ) (seen : Seen) → Setting opening opening.source pages.now seen → opening.source ≡ source.now →
         IsDecision opening current pages.now seen (UseDb name.now) result }
 {
     let db = find_database(pages, source, name);
-    if db == Database::Absent {
+    if !is_there(db) {
         return at_once(alloc, 911);
     }
     if is_lost(pages, db) {
         return at_once(alloc, 926);
     }
     only(alloc, Answer::AtOnce(Reply::Ok))
+}
+
+// SELECT
+fn select<P: PageFile>(
+    alloc: Global,
+    pages: &SnapPages<P>,
+    db: Database,
+    stmt: &SelectStmt,
+) -> Course
+    requires few { data_pages pages.now < 4294967295 }
+    requires pages { (p : PageId) → IsPage (img pages.now p) }
+    requires packed { IsPacked (data_pages pages.now) (slots_of (img pages.now)) }
+    requires placed { IsPlaced (catalog pages.now) db }
+    ensures { (opening : Opening) (current : List ℕ) (seen : Seen) → Setting opening opening.source pages.now seen →
+        Means opening.source (catalog pages.now) current db → IsCourse opening current pages.now seen (Select stmt.now) result }
+{
+    if !is_whole(stmt) {
+        return Course::Answers(at_once(alloc, 60098));
+    }
+    if is_lost(pages, db) {
+        return Course::Answers(at_once(alloc, 926));
+    }
+    match db {
+        Database::Source => Course::Answers(or_no_memory(alloc, select_in_source(alloc, pages, stmt))),
+        Database::Snap(s) => Course::See(s, stmt.table),
+        Database::Master => Course::Answers(at_once(alloc, 208)),
+        Database::Absent => Course::Answers(at_once(alloc, 208)),
+    }
+}
+
+/// The course that a statement of a session takes, by its current database.
+pub(crate) fn choose<P: PageFile>(
+    alloc: Global,
+    pages: &SnapPages<P>,
+    source: &Name,
+    current: &Name,
+    stmt: &Stmt,
+) -> Course
+    requires few { data_pages pages.now < 4294967295 }
+    requires pages { (p : PageId) → IsPage (img pages.now p) }
+    requires packed { IsPacked (data_pages pages.now) (slots_of (img pages.now)) }
+    requires sound { is_sound stmt.now ≡ true }
+    ensures { (opening : Opening) (seen : Seen) → Setting opening opening.source pages.now seen → opening.source ≡ source.now →
+        IsCourse opening current.now pages.now seen stmt.now result }
+{
+    let db = find_database(pages, source, current);
+    match stmt {
+        Stmt::UseDb(name) => Course::Answers(enter(alloc, pages, source, name)),
+        Stmt::CreateTable(name, cols) => Course::Answers(create(alloc, pages, db, name, cols)),
+        Stmt::Insert(stmt) => Course::Answers(insert(alloc, pages, db, stmt)),
+        Stmt::Update(stmt) => Course::Answers(update(alloc, pages, db, stmt)),
+        Stmt::Select(stmt) => select(alloc, pages, db, stmt),
+        Stmt::CreateSnap { .. } => Course::Cut,
+        Stmt::Broken { at } => Course::Answers(only(alloc, Answer::AtOnce(refused_at(102, u64::from(*at))))),
+        _ => Course::Answers(at_once(alloc, 60098)),
+    }
 }

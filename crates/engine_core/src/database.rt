@@ -2,7 +2,7 @@
 
 ghost use Rattle.std.specs.Prelude.{◌≡◌};
 ghost use Rattle.snap_pages.specs.Shown.{catalog};
-ghost use Rattle.engine_core.specs.Databases.{Means, IsPlaced, is_lost};
+ghost use Rattle.engine_core.specs.Databases.{Means, IsPlaced, is_lost, is_there, is_home};
 
 use page_base::{Name, SnapNo};
 use page_dev::PageFile;
@@ -43,4 +43,18 @@ pub(crate) fn is_lost<P: PageFile>(pages: &SnapPages<P>, db: Database) -> bool
         Database::Snap(s) => pages.cat().state(s) == SnapState::Suspect,
         _ => false,
     }
+}
+
+/// Whether there is such a database.
+pub(crate) fn is_there(db: Database) -> bool
+    ensures { result ≡ is_there db }
+{
+    !matches!(db, Database::Absent)
+}
+
+/// Whether the database is the source.
+pub(crate) fn is_home(db: Database) -> bool
+    ensures { result ≡ is_home db }
+{
+    matches!(db, Database::Source)
 }
