@@ -9,3 +9,4 @@ mod EditLemmas
 mod SeeLemmas
 mod Decisions
 mod Choices
+mod AnswerLemmas

@@ -1,5 +1,5 @@
 -- The plain machine's states around one session's statement.
-use Rattle.std.specs.Prelude.{ℕ, ◌≡◌, ◌≢◌, ◌+◌, ◌-◌, Bool, false, ◌==◌, ◌&&◌, List, [], ◌∷◌, ◌++◌, length, slice_set, slice_index_or, Option, Some, None, IsTrue}
+use Rattle.std.specs.Prelude.{ℕ, ◌≡◌, ◌≢◌, ◌+◌, ◌-◌, Bool, true, false, ◌==◌, ◌&&◌, List, [], ◌∷◌, ◌++◌, length, slice_set, slice_index_or, Option, Some, None, IsTrue}
 use Rattle.std.specs.List.{list_any}
 use Rattle.std.specs.Str.{bytes_eq}
 use Rattle.page_base.specs.declared.numbers.SessNo.{SessNo}
@@ -59,6 +59,10 @@ abbrev pub current_after : Stmt → Reply → List ℕ → List ℕ
 current_after stmt (Msg message) current = current
 current_after (UseDb name) reply current = name
 current_after stmt reply current = current
+
+abbrev pub is_refusal : Reply → Bool
+is_refusal (Msg message) = true
+is_refusal reply = false
 
 -- the reply has no effect beside those of table statements and USE: it isn't one of CREATE DATABASE, or is a refusal of it
 -- that leaves no name in doubt

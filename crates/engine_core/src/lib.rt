@@ -2,6 +2,7 @@
 #![tactic(auto)]
 
 mod answer;
+mod answering;
 mod choosing;
 mod course;
 mod database;
