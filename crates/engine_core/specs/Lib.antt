@@ -7,3 +7,4 @@ pub mod Doing
 pub mod Databases
 pub mod Seeing
 pub mod Deciding
+pub mod Disks
