@@ -9,6 +9,7 @@ mod database;
 mod deciding;
 mod decision;
 mod editing;
+mod engine;
 mod ledger;
 mod literals;
 mod pushing;
@@ -16,5 +17,6 @@ mod refusal;
 mod seat;
 mod seeing;
 
+pub use engine::Engine;
 pub use ledger::Ledger;
 pub use seat::Seat;
