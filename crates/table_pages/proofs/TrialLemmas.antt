@@ -1,18 +1,15 @@
 -- What keeps the pages of the tests ready.
 use Rattle.std.proofs.Common.{◌≡◌, ◌≢◌, ◌⊎◌, ℕ, zero, suc, ◌+◌, ◌-◌, ◌^◌, ◌<◌, ◌≤◌, Bool, true, false, inl, inr, List, [], ◌∷◌, length, ap, sym, ◌∙◌, subst, refl, arith, rules}
-use Rattle.std.specs.Prelude.{Result, Ok, Err, OnOk, OnErr, slice_index}
+use Rattle.std.specs.Prelude.{Result, Ok, Err, OnOk, OnErr, IfOk, slice_index}
 use Rattle.std.proofs.lemmas.Bool.{cases_eq}
 use Rattle.page_base.specs.declared.column.Column.{Column}
 use Rattle.page_base.specs.declared.numbers.PageId.{PageId}
-use Rattle.page_base.specs.declared.numbers.SnapNo.{SnapNo}
 use Rattle.page_base.specs.Pages.{blank, set_at}
 use Rattle.page_base.specs.Slots.{Slots, with_slot}
 use Rattle.page_fmt.specs.Content.{IsPage}
 use Rattle.page_fmt.proofs.CallerLemmas.{IsPage-blank}
-use Rattle.snap_pages.specs.Catalog.{Catalog, Snap, no_snap, snap_at, empty}
-use Rattle.snap_pages.specs.Shown.{Shown, img, counts, catalog, state_of, set_of}
-use Rattle.snap_pages.specs.Sparse.{is_copied}
-use Rattle.snap_pages.specs.Views.{IsPushed}
+use Rattle.snap_pages.specs.Catalog.{Catalog, empty}
+use Rattle.snap_pages.specs.Shown.{Shown, img, counts, catalog}
 use Rattle.snap_pages.specs.Slots.{slots_of}
 use Rattle.table_pages.specs.declared.edit.Edit.{Edit}
 use Rattle.table_pages.specs.Headers.{header}
@@ -32,9 +29,9 @@ ready_new v count next_cut images sizes cat small =
       alone = ap (λ (c : Catalog). c.snaps) cat;
     }
 
--- where no snapshot is, none lacks a page
-pub pushed : (v : Shown) (p : PageId) → IsReady v → IsPushed v p
-pushed v p ready s sound = absurd (sound (λ t. (snap_at (record { snaps = ready.alone t; next_cut = v.cat.next_cut }) s).state))
+pub ready_if : {E : Type 0} (r : Result Shown E) (count next_cut : ℕ) → IfOk r (λ v. img v ≡ (λ p. blank)) → IfOk r (λ v. counts v ≡ count ∷ []) → IfOk r (λ v. catalog v ≡ empty next_cut) → count < 2 ^ 32 → IfOk r IsReady
+ready_if (Ok v) count next_cut images sizes cat small = ready_new v count next_cut images sizes cat small
+ready_if (Err e) count next_cut images sizes cat small = tt
 
 -- the pages after one edit
 ready_after : (v new : Shown) (e : Edit) → IsReady v → (e.slot ≡ 0 → IsFirstFront v e) → slots_of (img new) ≡ with_slot (slots_of (img v)) e.page e.slot e.bytes → IsPage (img new e.page) → img new ≡ set_at (img v) e.page (img new e.page)
@@ -56,10 +53,10 @@ ready_after v new e ready front slots page images same cat =
         (subst (λ (s : ℕ). IsPacked (data_pages v) (with_slot (slots_of (img v)) (place f.at) s e.bytes)) (sym at) (front_packed v f.at e.bytes ready.packed f.first f.some))
     still (inr ne) = row_packed (data_pages v) (slots_of (img v)) e.page e.slot e.bytes (omega arith) ready.packed
 
-pub ready_on : {T E : Type 0} (r : Result T E) (v new : Shown) (e : Edit) → IsReady v → (e.slot ≡ 0 → IsFirstFront v e) → OnOk r (slots_of (img new) ≡ with_slot (slots_of (img v)) e.page e.slot e.bytes) → OnErr r (new ≡ v)
+pub ready_on : {T E : Type 0} (r : Result T E) (v new : Shown) (e : Edit) (x : List ℕ) → x ≡ e.bytes → IsReady v → (e.slot ≡ 0 → IsFirstFront v e) → OnOk r (slots_of (img new) ≡ with_slot (slots_of (img v)) e.page e.slot x) → OnErr r (new ≡ v)
     → IsPage (img new e.page) → img new ≡ set_at (img v) e.page (img new e.page) → counts new ≡ counts v → catalog new ≡ catalog v → IsReady new
-ready_on (Ok x) v new e ready front slots same page images sizes cat = ready_after v new e ready front slots page images sizes cat
-ready_on (Err x) v new e ready front slots same page images sizes cat = subst IsReady (sym same) ready
+ready_on (Ok u) v new e x x_is ready front slots same page images sizes cat = ready_after v new e ready front (slots ∙ ap (with_slot (slots_of (img v)) e.page e.slot) x_is) page images sizes cat
+ready_on (Err u) v new e x x_is ready front slots same page images sizes cat = subst IsReady (sym same) ready
 
 -- the edit of a new table begins the first blank page
 pub header_front : (v : Shown) (name : List ℕ) (cols : List Column) (e : Edit) → IsHeaderEdit v name cols e → IsFirstFront v e
