@@ -18,3 +18,4 @@ mod SetsLemmas
 mod DoneLemmas
 mod UpdateLemmas
 mod PlannedLemmas
+mod TrialLemmas

@@ -65,13 +65,34 @@ one_edit v e tables there room change says packed = record {
 page_there : (v : Shown) (i : ℕ) → i < data_pages v → IsThere v (place i)
 page_there v i lt = omega arith
 
+-- the first blank page gets a slot 0
+pub front_packed : (v : Shown) (i : ℕ) (x : List ℕ) → IsPacked (data_pages v) (slots_of (img v)) → IsFirstBlank v i → x ≢ [] → IsPacked (data_pages v) (with_slot (slots_of (img v)) (place i) 0 x)
+front_packed v i x packed blank_at full = record {
+  behind = λ a b lt high at_a.
+      let other : (q : ℕ) → q ≢ i → with_slot (slots_of (img v)) (place i) 0 x (place q) 0 ≡ slots_of (img v) (place q) 0 = λ q ne t. with_slot-page (slots_of (img v)) (place i) (place q) 0 x (places_apart q i ne) t 0 in
+      elim (cases_lt i a) [
+        | inl above ↦ other b (λ z. omega arith) ∙ packed.behind i b (omega arith) high blank_at.blank
+        | inr le ↦ elim (cases_eq a i) [
+          | inl here ↦ absurd (full (sym (with_slot-same (slots_of (img v)) (place i) 0 x) ∙ ap (λ (q : ℕ). with_slot (slots_of (img v)) (place i) 0 x (place q) 0) (sym here) ∙ at_a))
+          | inr ne ↦ absurd (blank_at.first a (omega arith) (sym (other a ne) ∙ at_a))
+        ]
+      ];
+}
+
+-- another slot than slot 0 is edited
+pub row_packed : (n : ℕ) (slots : Slots) (p : PageId) (slot : ℕ) (x : List ℕ) → 0 < slot → IsPacked n slots → IsPacked n (with_slot slots p slot x)
+row_packed n slots p slot x low packed = record { behind = λ a b lt high at_a. same b ∙ packed.behind a b lt high (sym (same a) ∙ at_a) }
+  where
+    same : (q : ℕ) → with_slot slots p slot x (place q) 0 ≡ slots (place q) 0
+    same q = with_slot-slot slots p (place q) slot 0 x (λ z. omega arith)
+
 -- A NEW TABLE
 
-header_full : (name : List ℕ) (cols : List Column) → (b : ℕ) × (bs : List ℕ) × (header name cols ≡ b ∷ bs)
+pub header_full : (name : List ℕ) (cols : List Column) → (b : ℕ) × (bs : List ℕ) × (header name cols ≡ b ∷ bs)
 unfolding header
 header_full name cols = (length name, name ++ length cols ∷ flat_map column_bytes cols, refl)
 
-not_nil : (x : List ℕ) (b : ℕ) (bs : List ℕ) → x ≡ b ∷ bs → x ≢ []
+pub not_nil : (x : List ℕ) (b : ℕ) (bs : List ℕ) → x ≡ b ∷ bs → x ≢ []
 not_nil x b bs e f = let wrong : b ∷ bs ≡ [] = sym e ∙ f in cc
 
 -- a page of which all slots are empty
@@ -120,22 +141,9 @@ module _ (v : Shown) (name : List ℕ) (cols : List Column) (i : ℕ) (tables : 
   create_says = collect_new nat_list_cmp_total names_exact (table_at (slots_of (img v))) (table_at (with_slot (slots_of (img v)) (place i) 0 (header name cols))) (data_pages v) i tables name (record { cols = cols; rows = finite.empty })
       e blank_at.within skips new new_item (λ q ne. table_at-other (slots_of (img v)) i 0 (header name cols) q ne)
 
-  create_packed : IsPacked (data_pages v) (with_slot (slots_of (img v)) (place i) 0 (header name cols))
-  create_packed = record {
-    behind = λ a b lt high at_a.
-        let other : (q : ℕ) → q ≢ i → with_slot (slots_of (img v)) (place i) 0 (header name cols) (place q) 0 ≡ slots_of (img v) (place q) 0 = λ q ne t. with_slot-page (slots_of (img v)) (place i) (place q) 0 (header name cols) (places_apart q i ne) t 0 in
-        elim (cases_lt i a) [
-          | inl above ↦ other b (λ z. omega arith) ∙ packed.behind i b (omega arith) high blank_at.blank
-          | inr le ↦ elim (cases_eq a i) [
-            | inl here ↦ absurd (full (sym (with_slot-same (slots_of (img v)) (place i) 0 (header name cols)) ∙ ap (λ (q : ℕ). with_slot (slots_of (img v)) (place i) 0 (header name cols) (place q) 0) (sym here) ∙ at_a))
-            | inr ne ↦ absurd (blank_at.first a (omega arith) (sym (other a ne) ∙ at_a))
-          ]
-        ];
-  }
-
   pub create_carries : Carries v (record { page = place i; slot = 0; bytes = header name cols } ∷ []) (applied (Add name cols) tables)
   create_carries = one_edit v (record { page = place i; slot = 0; bytes = header name cols }) (applied (Add name cols) tables) (page_there v i blank_at.within)
-      (record { index = omega arith; short = short; room = room }) (λ same. full (same ∙ blank_at.blank)) create_says create_packed
+      (record { index = omega arith; short = short; room = room }) (λ same. full (same ∙ blank_at.blank)) create_says (front_packed v i (header name cols) packed blank_at full)
 
 -- A NEW ROW
 
@@ -183,14 +191,8 @@ module _ (v : Shown) (i slot : ℕ) (row : List Value) (name : List ℕ) (t : Ta
       (λ q ne. table_at-other (slots_of (img v)) i slot (row_bytes row) q ne)
       ∙ ap (λ (o : Option Table). Some (changed tables name o (with_row row))) (sym (found_there (data_pages v) (slots_of (img v)) tables e i name t within holds))
 
-  same_fronts : (q : ℕ) → with_slot (slots_of (img v)) (place i) slot (row_bytes row) (place q) 0 ≡ slots_of (img v) (place q) 0
-  same_fronts q = with_slot-slot (slots_of (img v)) (place i) (place q) slot 0 (row_bytes row) (λ z. let low = first.low in omega arith)
-
-  insert_packed : IsPacked (data_pages v) (with_slot (slots_of (img v)) (place i) slot (row_bytes row))
-  insert_packed = record { behind = λ a b lt high at_a. same_fronts b ∙ packed.behind a b lt high (sym (same_fronts a) ∙ at_a) }
-
   pub insert_carries : Carries v (record { page = place i; slot = slot; bytes = row_bytes row } ∷ []) (applied (Put name row) tables)
   insert_carries =
       let used_is = used-edited (content (img v (place i))) slot (row_bytes row) first.empty (row_bytes-some row some) in
       one_edit v (record { page = place i; slot = slot; bytes = row_bytes row }) (applied (Put name row) tables) (page_there v i within)
-      (record { index = first.high; short = omega arith; room = room }) (λ same. row_full (same ∙ first.empty)) insert_says insert_packed
+      (record { index = first.high; short = omega arith; room = room }) (λ same. row_full (same ∙ first.empty)) insert_says (row_packed (data_pages v) (slots_of (img v)) (place i) slot (row_bytes row) first.low packed)

@@ -5,8 +5,8 @@ ghost use Rattle.std.specs.List.{list_all};
 ghost use Rattle.plain_model.specs.Sound.{is_definition};
 ghost use Rattle.plain_model.specs.Next.{is_small_number};
 ghost use Rattle.snap_pages.specs.Shown.{counts};
-ghost use Rattle.table_pages.specs.Carried.{data_pages, IsHeaderEdit};
-ghost use Rattle.table_pages.specs.Trial.{IsReady};
+ghost use Rattle.table_pages.specs.Carried.{data_pages};
+ghost use Rattle.table_pages.specs.Trial.{IsReady, IsFirstFront};
 
 use crate::header::header;
 use crate::row::row_bytes;
@@ -24,11 +24,15 @@ use std::test::Fail;
 
 type Pages = SnapPages<MemPages>;
 
-fn name(bytes: &[u8]) -> Result<Name, &'static str> {
+fn name(bytes: &[u8]) -> Result<Name, &'static str>
+    ensures { IfOk result (λ name. name ≡ bytes.now) }
+{
     Name::kept(bytes).ok_or("no name")
 }
 
-fn column(name: Name, kind: ColType, nullable: bool, key: u8) -> Column {
+fn column(name: Name, kind: ColType, nullable: bool, key: u8) -> Column
+    ensures { result ≡ record { name = name; kind = kind; nullable = nullable; key = key } }
+{
     Column {
         name,
         kind,
