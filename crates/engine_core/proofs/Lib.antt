@@ -10,3 +10,4 @@ mod SeeLemmas
 mod Decisions
 mod Choices
 mod AnswerLemmas
+mod FreshLemmas

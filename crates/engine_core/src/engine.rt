@@ -1,13 +1,19 @@
 //! The engine: a source in pages, its snapshots, its sessions, and the history of what they did.
 
-ghost use Rattle.std.specs.Prelude.{◌≡◌, ◌+◌, ◌<◌, ◌≤◌, ℕ, List, [], true, false, length, sum_by, replicate, IfOk};
+ghost use Rattle.std.specs.Prelude.{◌≡◌, ◌+◌, ◌<◌, ◌≤◌, ℕ, List, [], true, false, ◌∷◌, ◌*◌, length, sum_by, replicate, IfOk, IfErr};
 
+ghost use Rattle.std.specs.FinSet as finset;
+ghost use Rattle.page_base.specs.Pages.{blank};
+ghost use Rattle.snap_pages.specs.Shown.{img, counts, catalog};
+ghost use Rattle.snap_pages.specs.Catalog.{empty};
+ghost use Rattle.engine_core.specs.Opened.{names_of, new_source};
+ghost use Rattle.engine_core.specs.Disks.{disk_of};
 ghost use Rattle.plain_model.specs.State.{master};
 ghost use Rattle.plain_model.specs.Sound.{AreScripts};
 
 use crate::{Ledger, Seat};
 use page_base::{Name, NoMemory};
-use page_dev::Volume;
+use page_dev::{PageFile, Volume};
 use plain_model::{Event, Scripts};
 use snap_pages::SnapPages;
 use std::alloc::Global;
@@ -80,6 +86,31 @@ impl<V: Volume> Engine<V> {
     }
 }
 
+// What an engine keeps beside its volume and its scripts.
+#[derive(Drop)]
+struct Parts<P: PageFile> {
+    pages: SnapPages<P>,
+    seats: Vec<Seat>,
+    ledger: Ledger,
+}
+
+// Blank pages, sessions at their beginning, and room for all events.
+fn make_parts<P: PageFile>(alloc: Global, pages: u32, scripts: &Scripts) -> Result<Parts<P>, NoMemory>
+    ensures images { IfOk result (λ a. img a.pages ≡ (λ p. blank)) }
+    ensures counts { IfOk result (λ a. counts a.pages ≡ pages ∷ []) }
+    ensures catalog { IfOk result (λ a. catalog a.pages ≡ empty 1) }
+    ensures seats { IfOk result (λ a. a.seats.items ≡ replicate (length scripts.now) (record { current = master; said = 0; gone = false })) }
+    ensures ledger { IfOk result (λ a. a.ledger ≡ record { events = []; room = 3 * sum_by length scripts.now + length scripts.now }) }
+    ensures kept { AreScripts scripts.now }
+{
+    let room = 3 * statements(scripts) + scripts.len();
+    Ok(Parts {
+        pages: SnapPages::new(alloc, &[pages], 1)?,
+        seats: first_seats(alloc, scripts.len())?,
+        ledger: Ledger::new(alloc, room as u32)?,
+    })
+}
+
 /// The volume of an engine for which no memory was found, handed back.
 #[derive(Drop)]
 pub struct OpenRefused<V: Volume> {
@@ -118,4 +149,41 @@ fn first_seats(alloc: Global, sessions: usize) -> Result<Vec<Seat>, NoMemory>
         seats.push(first_seat())?;
     }
     Ok(seats)
+}
+
+impl<V: Volume> Engine<V> {
+    /// A run of these scripts over a new source `name` with one data file `file` of so many pages, at most 32,768,
+    /// without tables. No file of the volume may be out. Room for all events is found here, so that no later call is
+    /// refused for want of it. Refused only for want of memory, and then the volume is handed back.
+    pub fn fresh(
+        alloc: Global,
+        volume: V,
+        name: &Name,
+        file: &Name,
+        pages: u32,
+        scripts: Scripts,
+    ) -> Result<Engine<V>, OpenRefused<V>>
+        requires out { (n : List ℕ) → finset.contains (V.out volume) n ≡ false }
+        requires few { pages ≤ 32768 }
+        ensures opening { IfOk result (λ e. e.opening ≡ new_source name.now file.now (names_of (V.folder volume))) }
+        ensures scripts { IfOk result (λ e. e.scripts ≡ scripts) }
+        ensures disk { IfOk result (λ e. e.disk ≡ disk_of V.tells V.folder V.out V.failures V.file_failures volume) }
+        ensures seats { IfOk result (λ e. e.seats ≡ replicate (length scripts) (record { current = master; said = 0; gone = false })) }
+        ensures book { IfOk result (λ e. e.kept.events ≡ []) }
+        ensures refused { IfErr result (λ r. r.volume ≡ volume) }
+    {
+        let Ok(Parts { pages, seats, ledger }) = make_parts(alloc, pages, &scripts) else {
+            return Err(OpenRefused { volume });
+        };
+        Ok(Engine {
+            opened: Snapshot::of(&volume),
+            volume,
+            pages,
+            source: *name,
+            file: *file,
+            scripts,
+            seats,
+            ledger,
+        })
+    }
 }
