@@ -39,7 +39,7 @@ use Rattle.engine_core.specs.Pushing.{snaps_of}
 use Rattle.engine_core.specs.Ready.{Seen, Comes, reply_of}
 use Rattle.engine_core.specs.Stepping.{tables_after, IsPlain}
 use Rattle.engine_core.specs.Safe.{AreInts}
-use Rattle.engine_core.specs.Deciding.{Setting, IsDecision}
+use Rattle.engine_core.specs.Deciding.{Setting, IsDecision, IsStill}
 
 and_true : (b : Bool) → (b && true) ≡ b
 and_true true = refl
@@ -60,12 +60,18 @@ widths (es ∷ fs ∷ rows) row n e = cc
 pub msg_tables : (stmt : Stmt) (m : Message) (t : Tables) → tables_after stmt (Msg m) t ≡ t
 msg_tables stmt m t = refl
 
+still_none : (answer : Answer) → IsStill answer []
+still_none (AtOnce reply) = refl
+still_none (UnderAll mode reply) = tt
+still_none (UnderTable name mode reply) = tt
+
 -- an answer that edits nothing, and leaves the tables as they are
 pub decides_only : (opening : Opening) (source current : List ℕ) (v : Shown) (seen : Seen) (stmt : Stmt) (answer : Answer) → Setting opening source v seen → tables_after stmt (reply_of answer) seen.source ≡ seen.source →
     IsPlain stmt (reply_of answer) → Comes opening current seen (snaps_of v) stmt answer → IsDecision opening current v seen stmt (record { answer = answer; edits = [] })
 decides_only opening source current v seen stmt answer setting same simple comes = record {
   comes = comes;
   simple = simple;
+  still = still_none answer;
   carries = subst (λ (t : Tables). Carries v [] t) (sym same) setting.none;
   ints = subst AreInts (sym same) setting.ints;
 }
@@ -105,6 +111,7 @@ module _ (opening : Opening) (v : Shown) (seen : Seen) (setting : Setting openin
     create_made e none plan = record {
       comes = made_comes opening opening.source seen (snaps_of v) refl name cols b (some_columns cols definition).0 (ap create_shape none);
       simple = tt;
+      still = tt;
       carries = plan;
       ints = ints_insert seen.source name (record { cols = cols; rows = finite.empty }) setting.ints b (some_columns cols definition).1;
     }
@@ -144,6 +151,7 @@ module _ (opening : Opening) (v : Shown) (seen : Seen) (setting : Setting openin
           record {
             comes = reply_comes opening opening.source seen (snaps_of v) refl (Insert i) i.table X (of_insert i b) (Count 1) shaped (ap (λ (r : List Change × Reply). r.1) (meant false e));
             simple = tt;
+            still = tt;
             carries = subst (λ (u : Tables). Carries v (edit ∷ []) u) (sym changes) plan;
             ints = subst AreInts (sym (changes ∙ ap (λ o. changed seen.source i.table o (with_row row)) there)) (ints_insert seen.source i.table (with_row row t) setting.ints mine.0 mine.1);
           }
@@ -207,6 +215,7 @@ module _ (opening : Opening) (v : Shown) (seen : Seen) (setting : Setting openin
           record {
             comes = reply_comes opening opening.source seen (snaps_of v) refl (Update u) u.table X (of_update u b) (Count count) shaped replied;
             simple = tt;
+            still = tt;
             carries = subst (λ (x : Tables). Carries v edits x) (sym changes) plan;
             ints = subst AreInts (sym changes) (ints_puts u.table (updated_rows u.sets t) seen.source setting.ints);
           }

@@ -9,7 +9,10 @@ use Rattle.plain_model.specs.State.{master}
 use Rattle.plain_model.specs.Next.{is_built}
 use Rattle.snap_pages.specs.Catalog.{Catalog, HasSnap, IsCatalog, snap_at}
 use Rattle.snap_pages.specs.Shown.{Shown, catalog}
+use Rattle.table_pages.specs.declared.edit.Edit.{Edit}
 use Rattle.table_pages.specs.Carried.{Carries}
+use Rattle.engine_core.specs.declared.answer.Answer.{Answer}
+use Rattle.engine_core.specs.declared.answer.Answer.TheVariants.{AtOnce, UnderAll, UnderTable}
 use Rattle.engine_core.specs.declared.decision.Decision.{Decision}
 use Rattle.engine_core.specs.declared.database.Database.{Database}
 use Rattle.engine_core.specs.declared.database.Database.TheVariants.{Snap}
@@ -33,10 +36,16 @@ pub record Setting (opening : Opening) (source : List ℕ) (v : Shown) (seen : S
   pub none : Carries v [] seen.source
   pub ints : AreInts seen.source
 
+-- what is answered at once edits nothing
+abbrev pub IsStill : Answer → List Edit → Type 0
+IsStill (AtOnce reply) edits = edits ≡ []
+IsStill answer edits = Unit {0}
+
 -- the answer is what comes of the statement, and the edits carry the tables to what the answer makes of them
 pub record IsDecision (opening : Opening) (current : List ℕ) (v : Shown) (seen : Seen) (stmt : Stmt) (d : Decision) : Type 0 where
   pub comes : Comes opening current seen (snaps_of v) stmt d.answer
   pub simple : IsPlain stmt (reply_of d.answer)
+  pub still : IsStill d.answer d.edits
   pub carries : Carries v d.edits (tables_after stmt (reply_of d.answer) seen.source)
   pub ints : AreInts (tables_after stmt (reply_of d.answer) seen.source)
 

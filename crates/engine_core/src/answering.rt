@@ -87,6 +87,7 @@ pub(crate) fn carry_out<P: PageFile>(
     requires few { length ledger.old.events < 4294967296 }
     ensures does { Does who.0 number decision.answer ledger.old ledger.new pages.old pages.new }
     ensures tables { AreTables (data_pages pages.new) (img pages.new) tables }
+    ensures still { decision.edits ≡ [] → pages.new ≡ pages.old }
 {
     let began = ledger.len() as u32;
     let Decision { answer, edits } = decision;

@@ -43,6 +43,7 @@ pub(crate) fn do_edits<P: PageFile>(pages: &mut SnapPages<P>, ledger: &mut Ledge
     requires turns { sound pages.old ≤ ledger.old.room }
     ensures edits { Edits pages.old pages.new ledger.old ledger.new }
     ensures done { Carries pages.new [] tables }
+    ensures still { edits.now ≡ [] → pages.new ≡ pages.old }
 {
     for edit in edits.as_slice() {
         do_edit(pages, ledger, edit);

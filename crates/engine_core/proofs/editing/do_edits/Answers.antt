@@ -27,6 +27,7 @@ pub loop-edit-init : goal.loop-edit-init
 loop-edit-init g c = record {
   edits = record { leaves = leaves_refl c.args.pages.now; turns = turns_none c.args.ledger.now c.args.pages.now c.args.pages.now refl refl; pages = c.requires.1.1.0 };
   plan = subst (λ (es : List Edit). Carries c.args.pages.now es g.tables) (sym c.as_slice-edit-items.ensures) c.requires.1.0;
+  still = λ none. refl;
   room = c.requires.1.1.1;
 }
 
@@ -43,5 +44,9 @@ loop-edit-preserved g c =
       };
       plan = carries_on c.loop-edit.pages c.do_edit.new.pages c.edit-item.result (drop (c.loop-edit.edit-index + 1) c.as_slice-edit-items.result.now) g.tables
           (subst (λ (es : List Edit). Carries c.loop-edit.pages es g.tables) left inv.plan) e.slots e.content e.img e.edits.leaves.counts;
+      still = λ none.
+          let lt : c.loop-edit.edit-index < length c.as_slice-edit-items.result.now = c.loop-edit-test.true in
+          let l : length c.as_slice-edit-items.result.now ≡ 0 = ap length (c.as_slice-edit-items.ensures ∙ none) in
+          absurd (omega (arith, lt, l));
       room = let r = e.edits.turns.room in let f = e.edits.turns.fewer in let h = inv.room in omega (arith, r, f, h);
     }

@@ -1,4 +1,4 @@
-use Rattle.std.proofs.Common.{◌≤◌, drop}
+use Rattle.std.proofs.Common.{◌≡◌, ◌≤◌, drop, []}
 use Rattle.table_pages.specs.Carried.{Carries}
 use Rattle.engine_core.specs.Pushing.{sound}
 use Rattle.engine_core.specs.Doing.{Edits}
@@ -8,5 +8,6 @@ abbrev pub invariant-loop-edit : goal.invariant-loop-edit
 invariant-loop-edit g l = record {
   edits : Edits l.fn.pages l.pages l.fn.ledger l.ledger;
   plan : Carries l.pages (drop l.edit-index l.edit-items) g.tables;
+  still : l.edits ≡ [] → l.pages ≡ l.fn.pages;
   room : sound l.pages ≤ l.ledger.room;
 }
