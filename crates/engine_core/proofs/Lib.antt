@@ -10,3 +10,5 @@ mod SeeLemmas
 mod Decisions
 mod Choices
 mod AnswerLemmas
+mod Doubts
+mod CutLemmas

@@ -8,3 +8,4 @@ pub mod Databases
 pub mod Seeing
 pub mod Deciding
 pub mod Disks
+pub mod Creating
