@@ -11,3 +11,5 @@ mod Decisions
 mod Choices
 mod AnswerLemmas
 mod FreshLemmas
+mod Doubts
+mod CutLemmas

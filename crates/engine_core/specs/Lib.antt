@@ -9,3 +9,5 @@ pub mod Seeing
 pub mod Deciding
 pub mod Disks
 pub mod Opened
+pub mod Creating
+pub mod Steps

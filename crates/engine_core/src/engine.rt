@@ -1,6 +1,14 @@
 //! The engine: a source in pages, its snapshots, its sessions, and the history of what they did.
 
-ghost use Rattle.std.specs.Prelude.{◌≡◌, ◌+◌, ◌<◌, ◌≤◌, ℕ, List, [], true, false, ◌∷◌, ◌*◌, length, sum_by, replicate, IfOk, IfErr};
+ghost use Rattle.std.specs.Prelude.{◌≡◌, ◌+◌, ◌<◌, ◌≤◌, ℕ, List, [], true, false, ◌∷◌, ◌*◌, length, sum_by, replicate, IfOk, IfErr, slice_index, slice_get, Some};
+ghost use Rattle.engine_core.specs.Steps.{next_stmt, HasNext, Says};
+ghost use Rattle.engine_core.specs.Safe.{state, seen_by, seat_at};
+ghost use Rattle.engine_core.specs.Ready.{reply_of};
+ghost use Rattle.engine_core.specs.Stepping.{tables_after};
+ghost use Rattle.engine_core.specs.Deciding.{IsDecision, IsSeeing, IsCut};
+ghost use Rattle.plain_model.specs.State.{committed};
+ghost use Rattle.plain_model.specs.Tables.{Tables};
+ghost use Rattle.plain_model.specs.Sound.{is_sound};
 
 ghost use Rattle.std.specs.FinSet as finset;
 ghost use Rattle.page_base.specs.Pages.{blank};
@@ -11,10 +19,16 @@ ghost use Rattle.engine_core.specs.Disks.{disk_of};
 ghost use Rattle.plain_model.specs.State.{master};
 ghost use Rattle.plain_model.specs.Sound.{AreScripts};
 
+use crate::answering::{carry_out, current_after, enter_reply};
+use crate::choosing::choose;
+use crate::course::Course;
+use crate::creating::create_snapshot;
+use crate::decision::Decision;
+use crate::seeing::select_in;
 use crate::{Ledger, Seat};
-use page_base::{Name, NoMemory};
+use page_base::{Name, NoMemory, SessNo, SnapNo};
 use page_dev::{PageFile, Volume};
-use plain_model::{Event, Scripts};
+use plain_model::{Event, Scripts, Stmt};
 use snap_pages::SnapPages;
 use std::alloc::Global;
 use std::marker::Model;
@@ -185,5 +199,100 @@ impl<V: Volume> Engine<V> {
             seats,
             ledger,
         })
+    }
+}
+
+// The statement at a place of a session's script.
+fn stmt_at(scripts: &Scripts, place: usize, said: u32) -> &Stmt
+    requires there { place < length scripts.now }
+    requires more { said < length (slice_index scripts.now place) }
+    ensures is { slice_get (slice_index scripts.now place) said ≡ Some result.now }
+    ensures sound { is_sound result.now ≡ true }
+{
+    let script = scripts.at(place);
+    &script.as_slice()[said as usize]
+}
+
+impl<V: Volume> Engine<V> {
+    // The answer to a session's next statement is carried out.
+    fn answer(&mut self, place: usize, decision: Decision)
+        ghost tables: { Tables }
+        requires next { HasNext self.old place }
+        requires course { IsDecision self.old.opening (seat_at self.old place).current self.old.shown (seen_by (state self.old)) (next_stmt self.old place) decision }
+        requires tables { tables ≡ tables_after (next_stmt self.old place) (reply_of decision.answer) (committed (state self.old)) }
+        ensures { Says self.old self.new place }
+    {
+        let seat = self.seats[place];
+        let stmt = stmt_at(&self.scripts, place, seat.said);
+        let current = current_after(seat.current, stmt, &decision.answer);
+        let who = SessNo(place as u8 + 1);
+        carry_out(&mut self.pages, &mut self.ledger, who, seat.said + 1, decision);
+        self.seats[place] = Seat {
+            current,
+            said: seat.said + 1,
+            gone: false,
+        };
+    }
+
+    // A session's next statement reads a table of a snapshot.
+    fn see(&mut self, alloc: Global, place: usize, s: SnapNo, name: &Name)
+        requires next { HasNext self.old place }
+        requires course { IsSeeing self.old.opening (seat_at self.old place).current self.old.shown (next_stmt self.old place) s name.now }
+        ensures { Says self.old self.new place }
+    {
+        let seat = self.seats[place];
+        let who = SessNo(place as u8 + 1);
+        let began = self.ledger.len() as u32;
+        let reply = select_in(alloc, &mut self.pages, &mut self.ledger, s, name);
+        let _snaps = self.pages.cat();
+        enter_reply(&mut self.ledger, who, seat.said + 1, began, reply);
+        self.seats[place] = Seat {
+            said: seat.said + 1,
+            ..seat
+        };
+    }
+
+    // A session's next statement makes a snapshot.
+    fn cut(&mut self, alloc: Global, place: usize)
+        requires next { HasNext self.old place }
+        requires course { IsCut (next_stmt self.old place) }
+        ensures { Says self.old self.new place }
+    {
+        let seat = self.seats[place];
+        let who = SessNo(place as u8 + 1);
+        if let Stmt::CreateSnap { snap, files, of } = stmt_at(&self.scripts, place, seat.said) {
+            create_snapshot(
+                alloc,
+                &mut self.volume,
+                &mut self.pages,
+                &mut self.ledger,
+                &self.source,
+                &self.file,
+                who,
+                seat.said + 1,
+                snap,
+                files,
+                of,
+            );
+        }
+        self.seats[place] = Seat {
+            said: seat.said + 1,
+            ..seat
+        };
+    }
+
+    // A session's next statement.
+    fn statement(&mut self, alloc: Global, place: usize)
+        requires next { HasNext self.old place }
+        ensures { Says self.old self.new place }
+    {
+        let seat = self.seats[place];
+        let stmt = stmt_at(&self.scripts, place, seat.said);
+        let _snaps = self.pages.cat();
+        match choose(alloc, &self.pages, &self.source, &seat.current, stmt) {
+            Course::Answers(decision) => self.answer(place, decision),
+            Course::See(s, name) => self.see(alloc, place, s, &name),
+            Course::Cut => self.cut(alloc, place),
+        }
     }
 }

@@ -5,6 +5,7 @@ mod answer;
 mod answering;
 mod choosing;
 mod course;
+mod creating;
 mod database;
 mod deciding;
 mod decision;
