@@ -13,3 +13,4 @@ mod AnswerLemmas
 mod FreshLemmas
 mod Doubts
 mod CutLemmas
+mod CourseLemmas

@@ -1,8 +1,7 @@
 -- One step of a session, and what it leaves of the run.
-use Rattle.std.specs.Prelude.{ℕ, ◌≡◌, ◌+◌, ◌<◌, ◌≤◌, false, List, ◌++◌, length, slice_index_or, slice_set}
+use Rattle.std.specs.Prelude.{ℕ, ◌≡◌, ◌+◌, ◌<◌, ◌≤◌, false, List, length, slice_index_or, slice_set}
 use Rattle.plain_model.specs.declared.stmt.Stmt.{Stmt}
 use Rattle.plain_model.specs.declared.stmt.Stmt.TheVariants.{Broken}
-use Rattle.plain_model.specs.declared.event.Event.{Event}
 use Rattle.engine_core.specs.declared.seat.Seat.{Seat}
 use Rattle.engine_core.specs.Safe.{Run, seat_at, script_at}
 
@@ -15,15 +14,13 @@ pub record HasNext (e : Run) (i : ℕ) : Type 0 where
   pub there : i < length e.scripts
   pub more : (seat_at e i).said < length (script_at e i)
 
--- the run began as it did, over the same volume, with the same scripts; the history and the counts of faults never go back
+-- the run began as it did, over the same volume, with the same scripts; the volume's counts of faults never fall
 pub record Goes (old new : Run) : Type 0 where
   pub opening : new.opening ≡ old.opening
   pub scripts : new.scripts ≡ old.scripts
   pub told : new.disk.told ≡ old.disk.told
   pub failures : old.disk.failures ≤ new.disk.failures
   pub file_failures : old.disk.file_failures ≤ new.disk.file_failures
-  pub later : List Event
-  pub more : new.kept.events ≡ old.kept.events ++ later
 
 -- session i + 1 alone moved, and has this seat now
 pub record Steps (old new : Run) (i : ℕ) (seat : Seat) : Type 0 where

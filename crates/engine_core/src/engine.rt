@@ -1,6 +1,6 @@
 //! The engine: a source in pages, its snapshots, its sessions, and the history of what they did.
 
-ghost use Rattle.std.specs.Prelude.{◌≡◌, ◌+◌, ◌<◌, ◌≤◌, ℕ, List, [], true, false, ◌∷◌, ◌*◌, length, sum_by, replicate, IfOk, IfErr, slice_index, slice_get, Some};
+ghost use Rattle.std.specs.Prelude.{◌≡◌, ◌+◌, ◌<◌, ◌≤◌, ℕ, List, [], true, false, ◌∷◌, ◌*◌, length, sum_by, replicate, IfOk, IfErr, slice_index_or, slice_get, Some};
 ghost use Rattle.engine_core.specs.Steps.{next_stmt, HasNext, Says};
 ghost use Rattle.engine_core.specs.Safe.{state, seen_by, seat_at};
 ghost use Rattle.engine_core.specs.Ready.{reply_of};
@@ -205,8 +205,8 @@ impl<V: Volume> Engine<V> {
 // The statement at a place of a session's script.
 fn stmt_at(scripts: &Scripts, place: usize, said: u32) -> &Stmt
     requires there { place < length scripts.now }
-    requires more { said < length (slice_index scripts.now place) }
-    ensures is { slice_get (slice_index scripts.now place) said ≡ Some result.now }
+    requires more { said < length (slice_index_or scripts.now place []) }
+    ensures is { slice_get (slice_index_or scripts.now place []) said ≡ Some result.now }
     ensures sound { is_sound result.now ≡ true }
 {
     let script = scripts.at(place);
