@@ -77,6 +77,10 @@ lost_or_not Making = inr ((λ e. cc), refl)
 lost_or_not Online = inr ((λ e. cc), refl)
 lost_or_not Suspect = inl refl
 
+-- the seat that was read is the session's
+pub seat_read : (e : Run) → Safe e → (i : ℕ) → i < length e.scripts → (seat : Seat) → seat ≡ get_or e.seats i seat → seat ≡ seat_at e i
+seat_read e safe i lt seat is = is ∙ sym (get_or_from_slice_get e.seats i (get_or e.seats i seat) no_seat (slice_get-get_or e.seats i seat (let s = safe.sessions.seats in omega (arith, s, lt))))
+
 module _ (e : Run) (safe : Safe e) (i : ℕ) (next : HasNext e i) where
   -- the session hasn't left
   pub here : (seat_at e i).gone ≡ false
@@ -120,7 +124,7 @@ module _ (e : Run) (safe : Safe e) (i : ℕ) (next : HasNext e i) where
 
   -- the seat that was read is the session's
   pub own_seat : (seat : Seat) → seat ≡ get_or e.seats i seat → seat ≡ seat_at e i
-  own_seat seat is = is ∙ sym (get_or_from_slice_get e.seats i (get_or e.seats i seat) no_seat (slice_get-get_or e.seats i seat within))
+  own_seat seat is = seat_read e safe i next.there seat is
 
   -- the statement that was read is the session's next
   pub own_stmt : (seat : Seat) (stmt : Stmt) → seat ≡ seat_at e i → slice_get (script_at e i) seat.said ≡ Some stmt → next_stmt e i ≡ stmt

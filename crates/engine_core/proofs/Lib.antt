@@ -14,3 +14,4 @@ mod FreshLemmas
 mod Doubts
 mod CutLemmas
 mod CourseLemmas
+mod LeaveLemmas

@@ -1,8 +1,8 @@
 //! The engine: a source in pages, its snapshots, its sessions, and the history of what they did.
 
 ghost use Rattle.std.specs.Prelude.{◌≡◌, ◌+◌, ◌<◌, ◌≤◌, ℕ, List, [], true, false, ◌∷◌, ◌*◌, length, sum_by, replicate, IfOk, IfErr, slice_index_or, slice_get, Some};
-ghost use Rattle.engine_core.specs.Steps.{next_stmt, HasNext, Says};
-ghost use Rattle.engine_core.specs.Safe.{state, seen_by, seat_at};
+ghost use Rattle.engine_core.specs.Steps.{next_stmt, HasNext, Steps, Says};
+ghost use Rattle.engine_core.specs.Safe.{state, seen_by, seat_at, script_at};
 ghost use Rattle.engine_core.specs.Ready.{reply_of};
 ghost use Rattle.engine_core.specs.Stepping.{tables_after};
 ghost use Rattle.engine_core.specs.Deciding.{IsDecision, IsSeeing, IsCut};
@@ -143,12 +143,19 @@ fn statements(scripts: &Scripts) -> usize
     sum
 }
 
+// The database in which each session begins, and that it has when it has left.
+fn master() -> Name
+    ensures { result ≡ master }
+{
+    Name::read(b"master").unwrap()
+}
+
 // A session at its beginning.
 fn first_seat() -> Seat
     ensures { result ≡ record { current = master; said = 0; gone = false } }
 {
     Seat {
-        current: Name::read(b"master").unwrap(),
+        current: master(),
         said: 0,
         gone: false,
     }
@@ -278,6 +285,23 @@ impl<V: Volume> Engine<V> {
         self.seats[place] = Seat {
             said: seat.said + 1,
             ..seat
+        };
+    }
+
+    // A session without a statement left leaves.
+    fn leave(&mut self, place: usize)
+        requires there { place < length self.old.scripts }
+        requires here { (seat_at self.old place).gone ≡ false }
+        requires all { (seat_at self.old place).said ≡ length (script_at self.old place) }
+        ensures { Steps self.old self.new place (record { current = master; said = (seat_at self.old place).said; gone = true }) }
+    {
+        let said = self.seats[place].said;
+        let who = SessNo(place as u8 + 1);
+        self.ledger.enter(Event::Left { who });
+        self.seats[place] = Seat {
+            current: master(),
+            said,
+            gone: true,
         };
     }
 
