@@ -12,3 +12,6 @@ mod Choices
 mod AnswerLemmas
 mod Doubts
 mod CutLemmas
+mod Cutting
+mod CutSafe
+mod NameLemmas

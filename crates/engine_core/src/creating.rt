@@ -63,6 +63,7 @@ fn check_names<P: PageFile>(
     ensures refused { IfErr result (λ reply. MayAnswer source.now file.now pages.now (CreateSnap snap.now files.now of.now) reply) }
     ensures plain { IfErr result (λ reply. (disk : Disk) → Refuses [] disk disk reply) }
 {
+    let _ = pages.cat();
     if is_there(find_database(pages, source, snap)) {
         return Err(refused(1801));
     }
