@@ -400,3 +400,15 @@ module _ (source file : List ℕ) (disk0 : Disk) (v0 : Shown) (snap : List ℕ) 
     blame = blame_next;
     room = room_next source file disk0 v0 snap files of e i asked disk v kept events more left enough marked others reached reaches refl;
   }
+
+-- the same, by the call's own pages, volume and history
+pub cut_safe : (source file : List ℕ) (disk0 : Disk) (v0 : Shown) (snap : List ℕ) (files : List SnapFile) (of : List ℕ) (e : Run) (i : ℕ) → IsAsked source file disk0 v0 (CreateSnap snap files of) e i →
+    (disk : Disk) (v : Shown) (kept0 kept : Kept) (k n : ℕ) (names : List (List ℕ)) (added : Sparse) → e.kept ≡ kept0 → k ≡ i + 1 → n ≡ (seat_at e i).said + 1 → AddsSnap source snap files v0 v disk0 disk names added →
+    kept.events ≡ kept0.events ++ cut_events k n (length kept0.events) snap → kept.room + 2 ≡ kept0.room → (IsTrue disk0.told → next_of (state e) (i + 1) (Some (CreateSnap snap files of)) ≡ Cuts snap) →
+    Safe (record e { disk = disk; shown = v; seats = set e.seats i (record { current = (seat_at e i).current; said = (seat_at e i).said + 1; gone = false }); kept = kept })
+cut_safe source file disk0 v0 snap files of e i asked disk v kept0 kept k n names added kept_is k_is n_is adds more left cuts =
+    safe_cut source file disk0 v0 snap files of e i asked disk v kept names added
+      (subst (λ (d : Disk). AddsSnap source snap files e.shown v d disk names added) (sym asked.disk_is) (subst (λ (w : Shown). AddsSnap source snap files w v disk0 disk names added) (sym asked.shown_is) adds))
+      (more ∙ ap (λ (q : Kept). q.events ++ cut_events k n (length q.events) snap) (sym kept_is) ∙ ap (λ m. e.kept.events ++ cut_events m n (length e.kept.events) snap) k_is ∙ ap (λ m. e.kept.events ++ cut_events (i + 1) m (length e.kept.events) snap) n_is)
+      (left ∙ ap (λ (q : Kept). q.room) (sym kept_is))
+      (λ told. cuts (subst (λ (d : Disk). IsTrue d.told) asked.disk_is told))

@@ -335,3 +335,20 @@ module _ (source file : List ℕ) (disk0 : Disk) (v0 : Shown) (snap : List ℕ) 
       | inl y ↦ safe_by (with_doubt (state e) names) (doubt_base y)
       | inr n ↦ safe_by (state e) (plain_base n)
     ]
+
+-- the same, by the call's own volume and history
+pub refused_safe : (source file : List ℕ) (disk0 : Disk) (v0 : Shown) (snap : List ℕ) (files : List SnapFile) (of : List ℕ) (e : Run) (i : ℕ) → IsAsked source file disk0 v0 (CreateSnap snap files of) e i →
+    (disk : Disk) (kept0 kept : Kept) (who : SessNo) (n : ℕ) (reply : Reply) → e.kept ≡ kept0 → who.0 ≡ i + 1 → n ≡ (seat_at e i).said + 1 → Refuses (next_words.sparse_names files) disk0 disk reply →
+    kept ≡ entered kept0 (Said who n (length kept0.events) reply) → 0 < kept0.room → (IsTrue disk0.told → Allowed (state e) (i + 1) (CreateSnap snap files of) reply) →
+    Safe (record e { disk = disk; shown = v0; seats = set e.seats i (record { current = (seat_at e i).current; said = (seat_at e i).said + 1; gone = false }); kept = kept })
+refused_safe source file disk0 v0 snap files of e i asked disk kept0 kept who n reply kept_is who_is n_is refuses made room may =
+    let told_is : e.disk.told ≡ disk0.told = ap (λ (d : Disk). d.told) asked.disk_is in
+    subst (λ (w : Shown). Safe (record e { disk = disk; shown = w; seats = set e.seats i (record { current = (seat_at e i).current; said = (seat_at e i).said + 1; gone = false }); kept = kept })) asked.shown_is
+      (safe_refused source file disk0 v0 snap files of e i asked disk kept refuses.code
+        (made ∙ ap (λ (q : Kept). entered q (Said who n (length q.events) reply)) (sym kept_is) ∙ ap (λ m. entered e.kept (Said (number m) n (length e.kept.events) reply)) who_is
+          ∙ ap (λ m. entered e.kept (Said (number (i + 1)) m (length e.kept.events) reply)) n_is ∙ ap (λ r. entered e.kept (Said (number (i + 1)) ((seat_at e i).said + 1) (length e.kept.events) r)) refuses.is)
+        (subst (λ (q : Kept). 0 < q.room) (sym kept_is) room)
+        (refuses.told ∙ sym told_is)
+        (refuses.out ∙ ap (λ (d : Disk). d.out) (sym asked.disk_is))
+        (λ told. subst (λ (r : Reply). Allowed (state e) (i + 1) (CreateSnap snap files of) r) refuses.is (may (sym told_is ∙ told)))
+        (λ told name. subst (λ (d : Disk). (((refuses.code == 60021) ≡ true) × (list_any (bytes_eq name) (next_words.sparse_names files) ≡ true)) ⊎ (finite.contains_key disk.folder name ≡ finite.contains_key d.folder name)) (sym asked.disk_is) (refuses.places (sym told_is ∙ told) name)))

@@ -1,6 +1,6 @@
 -- Names on a volume, in lists and under snapshots, and what calls on the volume make of them.
-use Rattle.std.proofs.Common.{◌≡◌, ◌≢◌, ◌+◌, ◌<◌, ◌≤◌, ◌⊎◌, inl, inr, ℕ, Bool, true, false, ◌&&◌, ◌||◌, not, nat_eq, cond, IsTrue, List, [], ◌∷◌, ◌++◌, length, map, take, get_or, refl, ap, sym, ◌∙◌, subst, arith}
-use Rattle.std.specs.Prelude.{Option, Some, None, is_some, is_ok, OnErr, Result, Ok, Err, ◌==◌}
+use Rattle.std.proofs.Common.{◌≡◌, ◌≢◌, ◌+◌, ◌<◌, ◌≤◌, ◌⊎◌, inl, inr, ℕ, suc, zero, Bool, true, false, ◌&&◌, ◌||◌, not, nat_eq, cond, IsTrue, List, [], ◌∷◌, ◌++◌, length, map, take, get_or, refl, ap, sym, ◌∙◌, subst, arith, append_assoc}
+use Rattle.std.specs.Prelude.{Option, Some, None, is_some, is_ok, OnOk, OnErr, IfOk, IfErr, Result, Ok, Err, ◌==◌}
 use Rattle.std.specs.List.{list_any, flat_map}
 use Rattle.std.specs.Str.{bytes_eq}
 use Rattle.std.specs.FinMap as finite
@@ -11,9 +11,22 @@ use Rattle.std.specs.Cmp.Lexicographic.{slice_cmp, nat_list_cmp_total}
 use Rattle.std.proofs.lemmas.Bool.{cases_Bool}
 use Rattle.std.proofs.lemmas.Slice.Eq.{bytes_eq-Decides}
 use Rattle.page_dev.specs.Faults.{Rose}
-use Rattle.page_dev.specs.Volume.{Names, Folder, Kept, is_out, Removes}
+use Rattle.page_dev.specs.Volume.{Names, Folder, Kept, Out, is_out, Removes}
 use Rattle.plain_model.specs.declared.stmt.SnapFile.{SnapFile}
 use Rattle.plain_model.specs.Next.{is_each_once, logical_names, sparse_names}
+use Rattle.plain_model.specs.declared.event.Event.TheVariants.{CutAt, Said}
+use Rattle.plain_model.specs.declared.reply.Reply.{Reply}
+use Rattle.plain_model.specs.declared.reply.Reply.TheVariants.{Msg}
+use Rattle.plain_model.specs.declared.reply.Reply.TheVariants as reply
+use Rattle.plain_model.specs.Meaning.{plain}
+use Rattle.page_base.specs.declared.numbers.SessNo.{SessNo}
+use Rattle.page_dev.proofs.OutLemmas.{put_back}
+use Rattle.snap_pages.specs.Catalog.{Snap, no_snap}
+use Rattle.snap_pages.specs.Shown.{Shown}
+use Rattle.std.proofs.lemmas.List.Folds.{list_any-append}
+use Rattle.engine_core.specs.Entering as kept
+use Rattle.engine_core.specs.Safe.{Disk}
+use Rattle.engine_core.specs.Creating.{Reason, VolumeFailed, HasFile, HasNoPlace, HasNoMemory, Refuses, GivesBack, Makes, cut_events}
 use Rattle.engine_core.proofs.PushLemmas.{bytes_same, bytes_ne}
 
 -- two names are tied exactly where they are the same bytes
@@ -105,3 +118,131 @@ once_is (x ∷ []) f file l g = ap (λ (y : SnapFile). ((bytes_eq file y.logical
     plainly true = refl
     plainly false = refl
 once_is (x ∷ y ∷ ys) f file l g = absurd (omega (arith, l))
+
+-- A FILE THAT IS MADE, OR NOT
+
+any_first : (p : List ℕ → Bool) (fs gs : List (List ℕ)) → list_any p fs ≡ true → list_any p (fs ++ gs) ≡ true
+any_first p fs gs t = list_any-append p fs gs ∙ ap (λ b. b || list_any p gs) t
+
+any_last : (p : List ℕ → Bool) (fs gs : List (List ℕ)) → list_any p gs ≡ true → list_any p (fs ++ gs) ≡ true
+any_last p fs gs t = list_any-append p fs gs ∙ ap (λ b. list_any p fs || b) t ∙ or_true (list_any p fs)
+  where
+    or_true : (b : Bool) → (b || true) ≡ true
+    or_true true = refl
+    or_true false = refl
+
+-- one of the snapshots has the name
+pub any_at : (p : List ℕ → Bool) (xs : List Snap) (i : ℕ) → i < length xs → list_any p (get_or xs i no_snap).files ≡ true → list_any p (flat_map (λ s. s.files) xs) ≡ true
+any_at p [] i lt t = absurd (omega (arith, lt))
+any_at p (x ∷ xs) zero lt t = any_first p x.files (flat_map (λ s. s.files) xs) t
+any_at p (x ∷ xs) (suc i) lt t = any_last p x.files (flat_map (λ s. s.files) xs) (any_at p xs i (omega (arith, lt)) t)
+
+-- a file that was made, put back and removed
+pub refused_back : (path : List ℕ) (old mid new : Disk) (reply : Reply) → mid.told ≡ old.told → (IsTrue old.told → finite.contains_key old.folder path ≡ false) → (IsTrue old.told → mid.folder ≡ finite.insert old.folder path Out) →
+    mid.out ≡ finset.insert old.out path → finset.contains old.out path ≡ false → old.failures ≤ mid.failures → old.file_failures ≤ mid.file_failures → GivesBack path mid new reply → Refuses (path ∷ []) old new reply
+refused_back path old mid new reply told fresh made out unused later file_later back =
+    let told_mid : IsTrue old.told → IsTrue mid.told = λ t. told ∙ t in
+    record {
+      code = back.code;
+      is = back.is;
+      told = back.told ∙ told;
+      places = λ t name. elim (cases_Bool (bytes_eq name path)) [
+        | inl same ↦
+          let is : name ≡ path = (bytes_eq-Decides name path).0 same in
+          elim back.either [
+            | inl seven ↦ inr (ap (finite.contains_key new.folder) is ∙ back.freed (told_mid t) seven ∙ sym (fresh t) ∙ ap (finite.contains_key old.folder) (sym is))
+            | inr f ↦ inl (ap (λ n. n == 60021) f.0, ap (λ b. b || false) same)
+          ]
+        | inr other ↦ inr (back.places (told_mid t) name other ∙ ap (λ m. finite.contains_key m name) (made t) ∙ key-insert_other old.folder path Out name other)
+      ];
+      out = back.out ∙ ap (λ o. finset.remove o path) out ∙ put_back old.out path unused;
+      cause = λ y. elim back.either [
+        | inl seven ↦ absurd (let z : false ≡ true = sym (ap (λ n. n == 60021) seven) ∙ y in cc)
+        | inr f ↦ later_rose old.failures mid.failures new.failures later f.1
+      ];
+      failures = let a = back.failures in omega (arith, a, later);
+      file_failures = let a = back.file_failures in omega (arith, a, file_later);
+    }
+
+-- a file that couldn't be made, and whose name was removed
+pub refused_failed : (path : List ℕ) (old mid new : Disk) (reply : Reply) → reply ≡ Msg (plain 60021) → mid.told ≡ old.told → new.told ≡ mid.told →
+    (IsTrue old.told → finite.remove mid.folder path ≡ finite.remove old.folder path) → (IsTrue mid.told → (q : List ℕ) → bytes_eq q path ≡ false → finite.contains_key new.folder q ≡ finite.contains_key mid.folder q) →
+    mid.out ≡ old.out → new.out ≡ mid.out → Rose old.failures mid.failures → old.failures ≤ mid.failures → mid.failures ≤ new.failures → old.file_failures ≤ mid.file_failures → mid.file_failures ≤ new.file_failures → Refuses (path ∷ []) old new reply
+refused_failed path old mid new reply is told told' opens others out out' rose later later' file_later file_later' = record {
+  code = 60021;
+  is = is;
+  told = told' ∙ told;
+  places = λ t name. elim (cases_Bool (bytes_eq name path)) [
+    | inl same ↦ inl (refl, ap (λ b. b || false) same)
+    | inr other ↦ inr (others (told ∙ t) name other ∙ opened_other old.folder mid.folder path name (opens t) other)
+  ];
+  out = out' ∙ out;
+  cause = λ y. rose_later old.failures mid.failures new.failures rose later';
+  failures = omega (arith, later, later');
+  file_failures = omega (arith, file_later, file_later');
+}
+
+-- no name comes in doubt, whatever the statement's names are
+pub refuses_none : (names : List (List ℕ)) (old new : Disk) (reply : Reply) → Refuses [] old new reply → Refuses names old new reply
+refuses_none names old new reply r = record {
+  code = r.code;
+  is = r.is;
+  told = r.told;
+  places = λ t name. elim (r.places t name) [ | inl p ↦ absurd (let x : false ≡ true = p.1 in cc) | inr same ↦ inr same ];
+  out = r.out;
+  cause = r.cause;
+  failures = r.failures;
+  file_failures = r.file_failures;
+}
+
+-- a look at the volume came before
+module _ (old mid : Disk) (told : mid.told ≡ old.told) (folder : IsTrue old.told → mid.folder ≡ old.folder) (out : mid.out ≡ old.out) (later : old.failures ≤ mid.failures) (file_later : old.file_failures ≤ mid.file_failures) where
+  pub refuses_before : (names : List (List ℕ)) (new : Disk) (reply : Reply) → Refuses names mid new reply → Refuses names old new reply
+  refuses_before names new reply r = record {
+    code = r.code;
+    is = r.is;
+    told = r.told ∙ told;
+    places = λ t name. elim (r.places (told ∙ t) name) [ | inl p ↦ inl p | inr same ↦ inr (same ∙ ap (λ m. finite.contains_key m name) (folder t)) ];
+    out = r.out ∙ out;
+    cause = λ y. later_rose old.failures mid.failures new.failures later (r.cause y);
+    failures = let a = r.failures in omega (arith, a, later);
+    file_failures = let a = r.file_failures in omega (arith, a, file_later);
+  }
+
+  pub reason_before : (new : Disk) (v : Shown) (path : List ℕ) (reply : Reply) → Reason mid new v path reply → Reason old new v path reply
+  reason_before new v path reply (VolumeFailed is rose) = VolumeFailed is (later_rose old.failures mid.failures new.failures later rose)
+  reason_before new v path reply (HasFile is there) = HasFile is (λ t. ap (λ m. finite.contains_key m path) (sym (folder t)) ∙ there (told ∙ t))
+  reason_before new v path reply (HasNoPlace is lacks full) = HasNoPlace is (λ t. ap (λ m. finite.contains_key m path) (sym (folder t)) ∙ lacks (told ∙ t)) full
+  reason_before new v path reply (HasNoMemory is) = HasNoMemory is
+
+  pub makes_before : (path : List ℕ) (new : Disk) → Makes path mid new → Makes path old new
+  makes_before path new m = record {
+    told = m.told ∙ told;
+    fresh = λ t. ap (λ f. finite.contains_key f path) (sym (folder t)) ∙ m.fresh (told ∙ t);
+    places = λ t name. m.places (told ∙ t) name ∙ ap (λ f. bytes_eq name path || finite.contains_key f name) (folder t);
+    out = λ name. m.out name ∙ ap (λ o. bytes_eq name path || finset.contains o name) out;
+    failures = let a = m.failures in omega (arith, a, later);
+    file_failures = let a = m.file_failures in omega (arith, a, file_later);
+  }
+
+-- RESULTS
+
+pub on_ok : {T E : Type 0} (r : Result T E) (A : Type 0) → A → OnOk r A
+on_ok (Ok x) A a = a
+on_ok (Err x) A a = tt
+
+pub if_err : {T E : Type 0} (r : Result T E) (P Q : E → Type 0) → IfErr r P → ((x : E) → P x → Q x) → IfErr r Q
+if_err (Ok x) P Q h f = tt
+if_err (Err x) P Q h f = f x h
+
+pub all_ok : {T E : Type 0} (r : Result T E) (A : Type 0) (P Q S : T → Type 0) → OnOk r A → IfOk r P → IfOk r Q → ((x : T) → A → P x → Q x → S x) → IfOk r S
+all_ok (Ok x) A P Q S a p q f = f x a p q
+all_ok (Err x) A P Q S a p q f = tt
+
+-- TWO EVENTS
+
+pub two_events : (a b d : kept.Kept) (who : SessNo) (n began : ℕ) (snap : List ℕ) → b ≡ kept.entered a (CutAt who snap) → d ≡ kept.entered b (Said who n began reply.Ok) → began ≡ length a.events → d.events ≡ a.events ++ cut_events who.0 n (length a.events) snap
+two_events a b d who n began snap first then at =
+    ap (λ (k : kept.Kept). k.events) then ∙ ap (λ (k : kept.Kept). k.events ++ Said who n began reply.Ok ∷ []) first
+    ∙ append_assoc a.events (CutAt who snap ∷ []) (Said who n began reply.Ok ∷ [])
+    ∙ ap (λ m. a.events ++ CutAt who snap ∷ Said who n m reply.Ok ∷ []) at

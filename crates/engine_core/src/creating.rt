@@ -215,10 +215,12 @@ fn make_file<V: Volume>(
         },
         Err(VolRefusal::Exists) => Err(refused(60005)),
         Err(VolRefusal::Memory) => Err(refused(701)),
-        Err(_) => {
+        Err(VolRefusal::Failed) => {
             let _ = volume.remove(path);
             Err(refused(60021))
         }
+        Err(VolRefusal::Absent) => Err(refused(60021)),
+        Err(VolRefusal::Length { .. }) => Err(refused(60021)),
     }
 }
 
