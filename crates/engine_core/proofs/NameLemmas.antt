@@ -1,6 +1,8 @@
 -- Names on a volume, in lists and under snapshots, and what calls on the volume make of them.
 use Rattle.std.proofs.Common.{◌≡◌, ◌≢◌, ◌+◌, ◌<◌, ◌≤◌, ◌⊎◌, inl, inr, ℕ, suc, zero, Bool, true, false, ◌&&◌, ◌||◌, not, nat_eq, cond, IsTrue, List, [], ◌∷◌, ◌++◌, length, map, take, get_or, refl, ap, sym, ◌∙◌, subst, arith, append_assoc}
 use Rattle.std.specs.Prelude.{Option, Some, None, is_some, is_ok, OnOk, OnErr, IfOk, IfErr, Result, Ok, Err, ◌==◌}
+use Rattle.std.specs.Result.{IsErrAnd}
+use Rattle.std.proofs.lemmas.Result.{err_from_is_err_and}
 use Rattle.std.specs.List.{list_any, flat_map}
 use Rattle.std.specs.Str.{bytes_eq}
 use Rattle.std.specs.FinMap as finite
@@ -234,6 +236,9 @@ on_ok (Err x) A a = tt
 pub if_err : {T E : Type 0} (r : Result T E) (P Q : E → Type 0) → IfErr r P → ((x : E) → P x → Q x) → IfErr r Q
 if_err (Ok x) P Q h f = tt
 if_err (Err x) P Q h f = f x h
+
+pub err_as : {T E : Type 0} (r : Result T E) (Q P : E → Type 0) → IsErrAnd r Q → ((y : E) → Q y → P y) → IfErr r P
+err_as {T} {E} r Q P h f = let p = err_from_is_err_and {T = T} {E = E} {Q = Q} r h in subst (λ (x : Result T E). IfErr x P) (sym p.1) (f p.0 p.2)
 
 pub all_ok : {T E : Type 0} (r : Result T E) (A : Type 0) (P Q S : T → Type 0) → OnOk r A → IfOk r P → IfOk r Q → ((x : T) → A → P x → Q x → S x) → IfOk r S
 all_ok (Ok x) A P Q S a p q f = f x a p q
