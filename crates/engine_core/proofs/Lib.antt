@@ -15,3 +15,6 @@ mod Doubts
 mod CutLemmas
 mod CourseLemmas
 mod LeaveLemmas
+mod Cutting
+mod CutSafe
+mod NameLemmas

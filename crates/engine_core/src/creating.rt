@@ -63,6 +63,7 @@ fn check_names<P: PageFile>(
     ensures refused { IfErr result (λ reply. MayAnswer source.now file.now pages.now (CreateSnap snap.now files.now of.now) reply) }
     ensures plain { IfErr result (λ reply. (disk : Disk) → Refuses [] disk disk reply) }
 {
+    let _ = pages.cat();
     if is_there(find_database(pages, source, snap)) {
         return Err(refused(1801));
     }
@@ -214,10 +215,12 @@ fn make_file<V: Volume>(
         },
         Err(VolRefusal::Exists) => Err(refused(60005)),
         Err(VolRefusal::Memory) => Err(refused(701)),
-        Err(_) => {
+        Err(VolRefusal::Failed) => {
             let _ = volume.remove(path);
             Err(refused(60021))
         }
+        Err(VolRefusal::Absent) => Err(refused(60021)),
+        Err(VolRefusal::Length { .. }) => Err(refused(60021)),
     }
 }
 
