@@ -1,9 +1,10 @@
 -- The tables of the source's pages, and plans of edits that carry them to others.
-use Rattle.std.specs.Prelude.{◌≡◌, ◌≢◌, ◌⊎◌, ℕ, ◌-◌, ◌<◌, ◌≤◌, List, [], length, All, Option, Some, slice_index}
+use Rattle.std.specs.Prelude.{◌≡◌, ◌≢◌, ◌⊎◌, ℕ, ◌-◌, ◌<◌, List, [], length, All, Option, Some, slice_index}
 use Rattle.page_fmt.specs.Content.{content}
 use Rattle.page_fmt.specs.Edits.{edited, slot_at}
 use Rattle.page_fmt.specs.Spelling.{used}
 use Rattle.page_base.specs.declared.column.Column.{Column}
+use Rattle.page_base.specs.declared.numbers.PageId.{PageId}
 use Rattle.page_base.specs.declared.value.Value.{Value}
 use Rattle.snap_pages.specs.Shown.{Shown, img, counts, IsThere}
 use Rattle.snap_pages.specs.Slots.{slots_of}
@@ -61,3 +62,17 @@ pub record LacksRow (image : List ℕ) (row : List Value) : Type 0 where
   pub slot : ℕ
   pub first : IsFirstEmpty image slot
   pub lacks : 8192 < used (edited (content image) slot (row_bytes row))
+
+-- the edit of a new table: its header, in slot 0 of the first blank page
+pub record IsHeaderEdit (v : Shown) (name : List ℕ) (cols : List Column) (e : Edit) : Type 0 where
+  pub at : ℕ
+  pub first : IsFirstBlank v at
+  pub page : e.page ≡ place at
+  pub slot : e.slot ≡ 0
+  pub bytes : e.bytes ≡ header name cols
+
+-- the edit of a new row: its bytes, in the first empty slot
+pub record IsRowEdit (image : List ℕ) (p : PageId) (row : List Value) (e : Edit) : Type 0 where
+  pub page : e.page ≡ p
+  pub slot : IsFirstEmpty image e.slot
+  pub bytes : e.bytes ≡ row_bytes row

@@ -10,3 +10,4 @@ pub mod Layout
 pub mod Edits
 pub mod Carried
 pub mod Plans
+pub mod Trial

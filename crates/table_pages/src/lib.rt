@@ -10,8 +10,8 @@ mod planning;
 mod reader;
 mod row;
 mod stored;
-
-
+#[cfg(test)]
+mod tests;
 mod updating;
 
 pub use edit::{Edit, EditList};

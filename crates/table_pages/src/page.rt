@@ -74,7 +74,9 @@ pub fn read_table(alloc: Global, image: &Image) -> Result<StoredTable, NoMemory>
 
 // Whether the slot is a row with the key of this row.
 fn is_keyed(cols: &[Column], bytes: &[u8], row: &Row) -> bool
-    ensures { (read : List Value) → row_of cols.now bytes.now ≡ Some read → (IsTrue result ↔ (bytes.now ≢ []) × (key_of cols.now read ≡ key_of cols.now row.now)) }
+    ensures full { IsTrue result → bytes.now ≢ [] }
+    ensures same { (read : List Value) → bytes.now ≢ [] → row_of cols.now bytes.now ≡ Some read →
+        (IsTrue result ↔ (key_of cols.now read ≡ key_of cols.now row.now)) }
 {
     !bytes.is_empty() && same_key(cols, bytes, row.as_slice())
 }

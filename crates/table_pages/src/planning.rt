@@ -3,7 +3,7 @@
 ghost use Rattle.std.specs.Prelude.{◌≡◌, ◌+◌, ◌-◌, ◌*◌, ◌<◌, ◌≤◌, ◌∷◌, ◌↔◌, ℕ, List, [], length, true, false, None, Some, IsTrue, IfOk, IfSome, MatchOption};
 ghost use Rattle.std.specs.FinMap as finite;
 ghost use Rattle.std.specs.List.{list_all};
-ghost use Rattle.page_fmt.specs.Content.{content, IsPage};
+ghost use Rattle.page_fmt.specs.Content.{content, le16_at, IsPage};
 ghost use Rattle.page_fmt.specs.Edits.{edited, slot_at};
 ghost use Rattle.page_fmt.specs.Spelling.{used, row_bytes};
 ghost use Rattle.page_base.specs.declared.numbers.PageId.{PageId};
@@ -14,7 +14,7 @@ ghost use Rattle.snap_pages.specs.Shown.{img};
 ghost use Rattle.snap_pages.specs.Slots.{slots_of};
 ghost use Rattle.table_pages.specs.Rows.{is_int_value};
 ghost use Rattle.table_pages.specs.Layout.{place, IsPacked};
-ghost use Rattle.table_pages.specs.Carried.{data_pages, decoded, Holds, Carries, LacksPage, LacksRow, IsFirstEmpty};
+ghost use Rattle.table_pages.specs.Carried.{data_pages, decoded, Holds, Carries, LacksPage, LacksRow, IsFirstEmpty, IsHeaderEdit, IsRowEdit};
 
 use crate::Edit;
 use crate::finding::{blank_page, image, place};
@@ -43,6 +43,7 @@ pub fn plan_create<P: PageFile>(
     requires packed { IsPacked (data_pages pages.now) (slots_of (img pages.now)) }
     requires definition { is_definition cols.now ≡ true }
     ensures none { IfOk result (λ edit. MatchOption edit (LacksPage pages.now name.now cols.now) (λ _. ¬ LacksPage pages.now name.now cols.now)) }
+    ensures edit { IfOk result (λ edit. IfSome edit (IsHeaderEdit pages.now name.now cols.now)) }
     ensures some { IfOk result (λ edit. IfSome edit (λ e. (tables : Tables) → decoded pages.now ≡ Some tables →
         finite.get tables name.now ≡ None → Carries pages.now (e ∷ []) (applied (Add name.now cols.now) tables))) }
 {
@@ -74,12 +75,20 @@ fn empty_slot(image: &Image) -> u16
     count.max(1)
 }
 
+// The number at a place.
+fn number(bytes: &[u8], at: usize) -> u16
+    requires { at + 1 < length bytes.now }
+    ensures { result ≡ le16_at bytes.now at }
+{
+    LittleEndian::read_u16(&bytes[at..])
+}
+
 // How many bytes of the page its header, its rows and so many slots leave.
 fn free_bytes(image: &Image, slots: u16) -> usize
     requires { IsPage image.now }
     ensures { result ≡ 8192 - (96 + row_bytes (content image.now) + 2 * slots) }
 {
-    let rows = LittleEndian::read_u16(&image.bytes()[2..]);
+    let rows = number(image.bytes(), 2);
     PAGE.saturating_sub(96 + rows as usize + 2 * slots as usize)
 }
 
@@ -108,6 +117,7 @@ pub fn plan_insert<P: PageFile>(
     requires packed { IsPacked (data_pages pages.now) (slots_of (img pages.now)) }
     requires some { 0 < length row.now }
     ensures none { IfOk result (λ edit. MatchOption edit (LacksRow (img pages.now (place i)) row.now) (λ _. ¬ LacksRow (img pages.now (place i)) row.now)) }
+    ensures edit { IfOk result (λ edit. IfSome edit (IsRowEdit (img pages.now (place i)) (place i) row.now)) }
     ensures some { IfOk result (λ edit. IfSome edit (λ e. (name : List ℕ) (t : Table) (tables : Tables) →
         Holds (img pages.now (place i)) name t → decoded pages.now ≡ Some tables →
         list_all is_int t.cols ≡ true → list_all is_int_value row.now ≡ true → length row.now ≡ length t.cols →

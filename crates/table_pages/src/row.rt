@@ -93,11 +93,10 @@ pub(crate) fn int_at(ints: &[u8], place: usize) -> i32
 pub(crate) fn read_row(alloc: Global, cols: &[Column], bytes: &[u8]) -> Result<Row, NoMemory>
     ensures { IfOk result (λ row. (read : List Value) → row_of cols.now bytes.now ≡ Some read → row ≡ read) }
 {
-    let mut ints = ints_of(cols, bytes);
+    let ints = ints_of(cols, bytes);
     let mut row = Row::new(alloc);
-    for _ in cols {
-        row.push(Value::Int(first_int(ints)))?;
-        ints = &ints[ints.len().min(4)..];
+    for i in 0..cols.len() {
+        row.push(Value::Int(int_at(ints, i)))?;
     }
     Ok(row)
 }

@@ -12,6 +12,7 @@ ghost use Rattle.snap_pages.specs.Shown.{img};
 ghost use Rattle.snap_pages.specs.Slots.{slots_of};
 ghost use Rattle.table_pages.specs.Fitting.{FitInts};
 ghost use Rattle.table_pages.specs.Rows.{row_of, row_bytes};
+ghost use Rattle.table_pages.specs.Edits.{AreInOrder};
 ghost use Rattle.table_pages.specs.Plans.{Plans};
 ghost use Rattle.table_pages.specs.Layout.{place, IsPacked};
 ghost use Rattle.table_pages.specs.Carried.{data_pages, decoded, Holds, Carries};
@@ -38,7 +39,12 @@ fn literal(number: &Expr) -> Value
 }
 
 // What a column holds after the SETs.
-fn set_value(alloc: Global, sets: &[SetItem], column: &Column, value: &Value) -> Result<Value, NoMemory>
+fn set_value(
+    alloc: Global,
+    sets: &[SetItem],
+    column: &Column,
+    value: &Value,
+) -> Result<Value, NoMemory>
     requires { list_all (λ s. is_small_number s.to) sets.now ≡ true }
     ensures { IfOk result (λ v. v ≡ set_value sets.now column.now value.now) }
 {
@@ -51,19 +57,29 @@ fn set_value(alloc: Global, sets: &[SetItem], column: &Column, value: &Value) ->
 }
 
 // A row after the SETs.
-fn with_sets(alloc: Global, sets: &[SetItem], cols: &[Column], row: &[Value]) -> Result<Row, NoMemory>
+fn with_sets(
+    alloc: Global,
+    sets: &[SetItem],
+    cols: &[Column],
+    row: &[Value],
+) -> Result<Row, NoMemory>
     requires { list_all (λ s. is_small_number s.to) sets.now ≡ true }
     ensures { IfOk result (λ r. length row.now ≡ length cols.now → r ≡ with_sets sets.now cols.now row.now) }
 {
     let mut new = Row::new(alloc);
-    for (column, value) in cols.iter().zip(row) {
-        new.push(set_value(alloc, sets, column, value)?)?;
+    for i in 0..cols.len().min(row.len()) {
+        new.push(set_value(alloc, sets, &cols[i], &row[i])?)?;
     }
     Ok(new)
 }
 
 // The bytes of a slot's row after the SETs.
-fn updated_bytes(alloc: Global, sets: &[SetItem], cols: &[Column], bytes: &[u8]) -> Result<Bytes, NoMemory>
+fn updated_bytes(
+    alloc: Global,
+    sets: &[SetItem],
+    cols: &[Column],
+    bytes: &[u8],
+) -> Result<Bytes, NoMemory>
     requires { list_all (λ s. is_small_number s.to) sets.now ≡ true }
     ensures bytes { IfOk result (λ new. (row : List Value) → row_of cols.now bytes.now ≡ Some row → new ≡ row_bytes (with_sets sets.now cols.now row)) }
     ensures fits { OnOk result ((row : List Value) → row_of cols.now bytes.now ≡ Some row → FitInts (with_sets sets.now cols.now row)) }
@@ -122,7 +138,8 @@ pub fn plan_update<P: PageFile>(
     requires pages { (p : PageId) → IsPage (img pages.now p) }
     requires packed { IsPacked (data_pages pages.now) (slots_of (img pages.now)) }
     requires small { list_all (λ s. is_small_number s.to) sets.now ≡ true }
-    ensures { IfOk result (λ edits. (name : List ℕ) (t : Table) (tables : Tables) →
+    ensures order { IfOk result (λ edits. (name : List ℕ) (t : Table) → Holds (img pages.now (place i)) name t → cols.now ≡ t.cols → AreInOrder (place i) 0 edits) }
+    ensures carries { IfOk result (λ edits. (name : List ℕ) (t : Table) (tables : Tables) →
         Holds (img pages.now (place i)) name t → decoded pages.now ≡ Some tables →
         cols.now ≡ t.cols → list_all is_int t.cols ≡ true → list_any (λ s. is_key_column t.cols s.col) sets.now ≡ false →
         Carries pages.now edits (apply (map (Put name) (updated_rows sets.now t)) tables)) }
@@ -131,7 +148,15 @@ pub fn plan_update<P: PageFile>(
     let page = place(i);
     let mut edits = EditList::new(alloc);
     for s in 1..slots(image) {
-        plan_slot(alloc, &mut edits, page, s, sets.as_slice(), cols.as_slice(), slot(image, s))?;
+        plan_slot(
+            alloc,
+            &mut edits,
+            page,
+            s,
+            sets.as_slice(),
+            cols.as_slice(),
+            slot(image, s),
+        )?;
     }
     Ok(edits)
 }
