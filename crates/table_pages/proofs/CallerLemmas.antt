@@ -1,6 +1,6 @@
 -- What callers know of the pages that they went over in search of a table, and of plans that are carried out edit by edit.
-use Rattle.std.proofs.Common.{◌≡◌, ◌≢◌, ℕ, zero, suc, ◌+◌, ◌-◌, ◌<◌, ◌≤◌, Bool, true, false, cond, inl, inr, List, [], ◌∷◌, length, map, get_or, All, refl, ap, sym, ◌∙◌, subst, arith}
-use Rattle.std.specs.Prelude.{Option, Some, None, slice_index}
+use Rattle.std.proofs.Common.{◌≡◌, ℕ, suc, ◌+◌, ◌-◌, ◌<◌, ◌≤◌, Bool, true, false, cond, inl, inr, List, [], ◌∷◌, map, All, refl, ap, sym, ◌∙◌, subst, arith}
+use Rattle.std.specs.Prelude.{Some, None, slice_index}
 use Rattle.std.specs.FinMap as finite
 use Rattle.std.specs.Str.{bytes_eq}
 use Rattle.std.specs.Cmp.Lexicographic.{nat_list_cmp_total}
@@ -10,7 +10,6 @@ use Rattle.std.proofs.lemmas.Slice.Eq.{bytes_eq-Decides}
 use Rattle.page_base.specs.declared.numbers.PageId.{PageId}
 use Rattle.page_base.specs.Pages.{blank, is_page, set_at}
 use Rattle.page_base.specs.Slots.{Slots, with_slot}
-use Rattle.page_fmt.specs.Spelling.{used}
 use Rattle.page_fmt.specs.Content.{content, IsPage}
 use Rattle.page_fmt.specs.Edits.{edited, slot_at, LacksRoom}
 use Rattle.page_fmt.proofs.CallerLemmas.{content-blank}
@@ -19,13 +18,13 @@ use Rattle.plain_model.specs.Tables.{Table, Tables}
 use Rattle.plain_model.specs.Meaning.{literal}
 use Rattle.plain_model.specs.Sound.{is_definition}
 use Rattle.plain_model.specs.Next.{is_small_number}
-use Rattle.snap_pages.specs.Shown.{Shown, img, counts, IsThere}
+use Rattle.snap_pages.specs.Shown.{Shown, img, counts}
 use Rattle.snap_pages.specs.Slots.{slots_of}
 use Rattle.table_pages.specs.declared.edit.Edit.{Edit}
 use Rattle.table_pages.specs.Gathered.{Item, Skip, Bad, Has}
 use Rattle.table_pages.specs.Rows.{is_int_value}
 use Rattle.table_pages.specs.Layout.{place, table_at, tables_of, IsBlankAt, IsPacked, IsOther, Passed}
-use Rattle.table_pages.specs.Edits.{done, HasRoom, FitIn, Change}
+use Rattle.table_pages.specs.Edits.{done, FitIn, Change}
 use Rattle.table_pages.specs.Carried.{data_pages, decoded, Holds, Carries}
 use Rattle.table_pages.proofs.CollectLemmas.{collect_at, collect_good, collect_lacks, collect_none}
 use Rattle.table_pages.proofs.OrderLemmas.{names_exact}
@@ -35,6 +34,7 @@ use Rattle.table_pages.proofs.SetsLemmas.{literal-int}
 
 -- THE TABLE OF A NAME
 
+-- a name is itself by the test
 pub same_bytes : (name : List ℕ) → bytes_eq name name ≡ true
 same_bytes name = (bytes_eq-Decides name name).1 refl
 
@@ -160,6 +160,7 @@ pages_on v new p pages page images q = subst (λ (im : PageId → List ℕ). IsP
 
 -- PAGES OF ZEROS
 
+-- no slot of a blank page holds bytes
 pub blank_slots : (images : PageId → List ℕ) → images ≡ (λ p. blank) → (p : PageId) (j : ℕ) → slots_of images p j ≡ []
 blank_slots images e p j = (λ t. slot_at (content (e t p)) j) ∙ ap (λ (s : List (List ℕ)). slot_at s j) content-blank
 
@@ -168,6 +169,7 @@ pub blank_tables : (n : ℕ) (slots : Slots) → ((p : PageId) (j : ℕ) → slo
 unfolding tables_of
 blank_tables n slots none = collect_none nat_list_cmp_total names_exact (table_at slots) n (λ i lt. bare_skips (slots (place i)) (none (place i)))
 
+-- there is no gap between pages without tables
 pub blank_packed : (n : ℕ) (slots : Slots) → ((p : PageId) (j : ℕ) → slots p j ≡ []) → IsPacked n slots
 blank_packed n slots none = record { behind = λ i j lt high blank_at. none (place j) 0 }
 

@@ -35,6 +35,7 @@ not_there : {A : Type 0} (o : Option A) → is_some o ≡ false → o ≡ None
 not_there None e = refl
 not_there (Some x) e = cc
 
+-- keys that tie are one
 pub ties : {K : Type 0} {R : K → K → Ordering} → IsAntisymmetric R → (q k : K) → eq_by_cmp R q k ≡ true → q ≡ k
 ties {R = R} same q k e = same q k (equal (R q k) e)
 

@@ -1,17 +1,18 @@
 -- Edits one after the other, and one more behind them.
-use Rattle.std.proofs.Common.{◌≡◌, ◌≢◌, ℕ, zero, suc, ◌+◌, ◌*◌, ◌<◌, ◌≤◌, max, Bool, true, false, cond, ◌==◌, ◌&&◌, inl, inr, List, [], ◌∷◌, ◌++◌, length, get_or, All, refl, ap, sym, ◌∙◌, subst, arith}
+use Rattle.std.proofs.Common.{◌≡◌, ◌≢◌, ℕ, ◌+◌, ◌<◌, ◌≤◌, Bool, true, false, cond, ◌==◌, ◌&&◌, inl, inr, List, [], ◌∷◌, ◌++◌, length, refl, ap, sym, ◌∙◌, arith}
 use Rattle.std.specs.List.{AllByRecursion}
 use Rattle.page_base.specs.declared.numbers.PageId.{PageId}
 use Rattle.page_base.specs.Pages.{is_page, set_at}
 use Rattle.page_base.specs.Slots.{Slots, with_slot}
 use Rattle.page_base.proofs.PagesLemmas.{cases_page, is_page-same, is_page-other}
-use Rattle.page_fmt.specs.Spelling.{row_bytes, used}
-use Rattle.page_fmt.specs.Edits.{set_slot, edited, slot_at}
+use Rattle.page_fmt.specs.Spelling.{used}
+use Rattle.page_fmt.specs.Edits.{edited, slot_at}
 use Rattle.page_fmt.proofs.SlotLemmas.{length-set_slot, row_bytes-set_slot}
 use Rattle.page_fmt.proofs.CallerLemmas.{slot_at-edited}
 use Rattle.table_pages.specs.declared.edit.Edit.{Edit}
 use Rattle.table_pages.specs.Edits.{done, HasRoom, FitIn, Change, AreInOrder}
 
+-- the slots of each page
 abbrev pub Contents : Type 0
 Contents = PageId → List (List ℕ)
 
@@ -46,22 +47,27 @@ slots_after (e ∷ es) c = slots_after es (set_at c e.page (edited (c e.page) e.
 
 -- ONE MORE EDIT AT THE END
 
+-- the slots after one more edit
 pub done_more : (es : List Edit) (e : Edit) (s : Slots) → done (es ++ e ∷ []) s ≡ with_slot (done es s) e.page e.slot e.bytes
 done_more [] e s = refl
 done_more (d ∷ es) e s = done_more es e (with_slot s d.page d.slot d.bytes)
 
+-- the same of lists of slots
 pub after_more : (es : List Edit) (e : Edit) (c : Contents) → after (es ++ e ∷ []) c ≡ set_at (after es c) e.page (edited (after es c e.page) e.slot e.bytes)
 after_more [] e c = refl
 after_more (d ∷ es) e c = after_more es e (set_at c d.page (edited (c d.page) d.slot d.bytes))
 
+-- one more edit that fits
 pub fit_more : (es : List Edit) (e : Edit) (c : Contents) → FitIn c es → HasRoom (after es c e.page) e → FitIn c (es ++ e ∷ [])
 fit_more [] e c fits room = (room, tt)
 fit_more (d ∷ es) e c fits room = (fits.0, fit_more es e (set_at c d.page (edited (c d.page) d.slot d.bytes)) fits.1 room)
 
+-- one more edit that changes its slot
 pub change_more : (es : List Edit) (e : Edit) (s : Slots) → Change s es → e.bytes ≢ done es s e.page e.slot → Change s (es ++ e ∷ [])
 change_more [] e s changes ne = (ne, tt)
 change_more (d ∷ es) e s changes ne = (changes.0, change_more es e (with_slot s d.page d.slot d.bytes) changes.1 ne)
 
+-- what holds of each edit
 pub each_more : (P : Edit → Type 0) (es : List Edit) (e : Edit) → AllByRecursion P es → P e → AllByRecursion P (es ++ e ∷ [])
 each_more P [] e each here = (here, tt)
 each_more P (d ∷ es) e each here = (each.0, each_more P es e each.1 here)
@@ -78,6 +84,7 @@ below_later k (d ∷ es) each = (let lt = each.0 in omega arith, below_later k e
 
 -- A SLOT THAT KEEPS ITS LENGTH
 
+-- the page takes as many bytes as before
 pub set_same : (slots : List (List ℕ)) (i : ℕ) (x : List ℕ) → i < length slots → x ≢ [] → length x ≡ length (slot_at slots i) → (used (edited slots i x) ≡ used slots) × (length (edited slots i x) ≡ length slots)
 set_same slots i [] lt full e = absurd (full refl)
 set_same slots i (b ∷ bs) lt full e =

@@ -1,8 +1,8 @@
 -- A header that was written is read again, and what is read is a name and a good definition of columns.
-use Rattle.std.proofs.Common.{◌≡◌, ℕ, zero, suc, ◌+◌, ◌-◌, ◌*◌, ◌/◌, ◌%◌, ◌^◌, ◌<◌, ◌≤◌, Bool, true, false, cond, ◌&&◌, ◌==◌, List, [], ◌∷◌, ◌++◌, length, take, drop, refl, ap, sym, ◌∙◌, subst, arith, eq-eqb, length-append, append_assoc, lit<}
+use Rattle.std.proofs.Common.{◌≡◌, ℕ, ◌+◌, ◌-◌, ◌*◌, ◌/◌, ◌%◌, ◌^◌, ◌<◌, ◌≤◌, Bool, true, false, cond, ◌&&◌, ◌==◌, List, [], ◌∷◌, ◌++◌, length, take, drop, refl, ap, sym, ◌∙◌, subst, arith, length-append, append_assoc, lit<}
 use Rattle.std.specs.Prelude.{Option, Some, None, Ok, Err, nat_lt, nat_le, map, filter}
 use Rattle.std.specs.List.{list_all, flat_map, range_with_len}
-use Rattle.std.proofs.lemmas.Bool.{and_parts, le-ltb, cases_Bool}
+use Rattle.std.proofs.lemmas.Bool.{and_parts, le-ltb}
 use Rattle.std.proofs.lemmas.Bool.Decides.{nat_tests}
 use Rattle.std.proofs.lemmas.List.{append-nil, take_at, drop_at}
 use Rattle.std.proofs.lemmas.Option.{same_Some, none-some}
@@ -15,7 +15,7 @@ use Rattle.page_base.proofs.FormatLemmas.{bind_ok, read_is}
 use Rattle.page_base.proofs.TimesLoop.{with_front}
 use Rattle.plain_model.specs.Sound.{is_type, is_column, is_definition, are_distinct, has_place}
 use Rattle.table_pages.specs.Numbers.{number, number_in}
-use Rattle.table_pages.specs.Headers.{sized, type_number, type_length, key_number, column_bytes, header, is_low_name, low_name, given, byte_at, name_at, number_at, type_of, type_at, key_of_number, key_at, column_at, columns_at, header_at, whole, defined, header_of}
+use Rattle.table_pages.specs.Headers.{sized, type_number, type_length, key_number, column_bytes, header, low_name, given, byte_at, name_at, number_at, type_of, type_at, key_of_number, key_at, column_at, columns_at, header_at, whole, defined, header_of}
 use Rattle.table_pages.specs.Names.{IsKeptColumn, AreKept}
 use Rattle.table_pages.specs.Reading.{Stops}
 use Rattle.table_pages.proofs.NameLemmas.{IsLowName-back}
@@ -23,6 +23,7 @@ use Rattle.table_pages.proofs.NumberLemmas.{number_in-number, drop-number, lengt
 
 -- WHAT IS READ
 
+-- the bytes are this name and these columns, and nothing else
 pub record IsHeader (bytes name : List ℕ) (cols : List Column) : Type 0 where
   pub rest : List ℕ
   pub named : name_at bytes ≡ Ok (name, rest)
@@ -45,6 +46,7 @@ whole_is (Ok (x, [])) h e = ap (λ (y : head). Ok (y, [])) (same_Some x h e)
 whole_is (Ok (x, b ∷ bs)) h e = absurd (none-some h e)
 whole_is (Err rest) h e = absurd (none-some h e)
 
+-- what a header says was read from it
 pub header_is : (bytes name : List ℕ) (cols : List Column) → header_of bytes ≡ Some (name, cols) → IsHeader bytes name cols
 unfolding header_of header_at
 header_is bytes name cols e =
@@ -67,6 +69,7 @@ header_is bytes name cols e =
 
 -- READING STOPS
 
+-- reading that stops
 pub stopped : {X : Type 0} (r : Read X) → Stops r → (rest : List ℕ) × (r ≡ Err rest)
 stopped (Ok x) h = absurd h
 stopped (Err rest) h = (rest, refl)
@@ -82,6 +85,7 @@ columns_begin bytes count rest e =
     no_front (Ok xs) = refl
     no_front (Err rest) = refl
 
+-- without a number there are no columns
 pub no_columns : (bytes : List ℕ) → Stops (byte_at bytes) → Stops (columns_at bytes)
 unfolding columns_at
 no_columns bytes h = let s = stopped (byte_at bytes) h in subst (λ (r : Read ℕ). Stops (r >>= λ count. times_at column_at count.0 count.1)) (sym s.1) tt
@@ -110,6 +114,7 @@ number_again x rest lt =
     ap (λ (b : Bool). cond b (Err (number x ++ rest)) (Ok (number_in (number x ++ rest), drop 4 (number x ++ rest)))) long
     ∙ (λ t. Ok (number_in-number x rest lt t, drop-number x rest t))
 
+-- a type that is read again
 pub record IsKnownType (kind : ColType) : Type 0 where
   pub again : type_of (type_number kind) (type_length kind) ≡ Some kind
   pub number : type_number kind < 2 ^ 32

@@ -1,16 +1,15 @@
 -- The table that a page holds, as the calls that read a page find it.
 use Rattle.std.proofs.Common.{◌≡◌, ◌≢◌, ℕ, ◌+◌, ◌-◌, ◌<◌, ◌≤◌, Bool, true, false, inl, inr, IsTrue, List, [], length, refl, ap, sym, ◌∙◌, subst, arith}
-use Rattle.std.specs.Prelude.{◌↔◌, Option, Some, Ok}
+use Rattle.std.specs.Prelude.{◌↔◌, Some, Ok}
 use Rattle.std.specs.Option.{is_some}
 use Rattle.std.specs.FinMap as finite
 use Rattle.std.proofs.lemmas.Bool.{cases_lt}
 use Rattle.page_base.specs.declared.column.Column.{Column}
 use Rattle.page_base.specs.declared.value.Value.{Value}
-use Rattle.page_base.specs.Reading.{Read}
 use Rattle.page_base.proofs.FormatLemmas.{read_is}
 use Rattle.page_fmt.specs.Content.{content, IsPage}
 use Rattle.page_fmt.specs.Edits.{slot_at}
-use Rattle.plain_model.specs.Tables.{Rows, Table, key_of, with_row}
+use Rattle.plain_model.specs.Tables.{Table, key_of, with_row}
 use Rattle.table_pages.specs.Gathered.{collect}
 use Rattle.table_pages.specs.Rows.{row_of}
 use Rattle.table_pages.specs.Headers.{name_at, columns_at}
@@ -18,7 +17,7 @@ use Rattle.table_pages.specs.Reading.{Stops}
 use Rattle.table_pages.specs.Layout.{row_at}
 use Rattle.table_pages.specs.Carried.{Holds}
 use Rattle.table_pages.proofs.HeaderLemmas.{IsHeader, header_is}
-use Rattle.table_pages.proofs.PageLemmas.{IsTable, table_is, few_slots, slot_past, Front, Passes, Puts, front_more, front_all, row_there, row_lacks, page_slot, IsSlot, Empty, Row}
+use Rattle.table_pages.proofs.PageLemmas.{table_is, few_slots, slot_past, Passes, Puts, front_more, front_all, row_there, row_lacks, page_slot, Empty, Row}
 
 held_header : (image held : List ℕ) (t : Table) → Holds image held t → IsHeader (slot_at (content image) 0) held t.cols
 held_header image held t h = header_is (slot_at (content image) 0) held t.cols (table_is (slot_at (content image)) held t h).header
@@ -30,6 +29,7 @@ held_name image reader held name after t h at read =
     let same = read_is name held after i.rest (sym read ∙ ap name_at at ∙ i.named) in
     (same.0, ap columns_at same.1 ∙ i.columns)
 
+-- the name of a page that holds a table is read
 pub held_stops : (image reader held : List ℕ) (t : Table) → Holds image held t → reader ≡ slot_at (content image) 0 → Stops (name_at reader) → ⊥
 held_stops image reader held t h at stops = let i = held_header image held t h in subst Stops (ap name_at at ∙ i.named) stops
 
@@ -40,9 +40,11 @@ pub record IsRead (image : List ℕ) (t : Table) (i : ℕ) (table : Table) : Typ
   pub cols : table.cols ≡ t.cols
   pub rows : collect (row_at t.cols (slot_at (content image))) (i - 1) ≡ Some table.rows
 
+-- no slot is read yet
 pub read_none : (image : List ℕ) (t : Table) (cols : List Column) → cols ≡ t.cols → IsRead image t 1 (record { cols = cols; rows = finite.empty })
 read_none image t cols e = record { cols = e; rows = refl }
 
+-- one slot more is read
 pub read_more : (image bytes held : List ℕ) (i : ℕ) (t old new : Table) → Holds image held t → 0 < i → i < 4048 → bytes ≡ slot_at (content image) i →
     (bytes ≡ [] → new ≡ old) → ((row : List Value) → bytes ≢ [] → row_of old.cols bytes ≡ Some row → new ≡ with_row row old) → IsRead image t i old → IsRead image t (i + 1) new
 read_more image bytes held i t old new h pos lt at passes puts so_far =
@@ -65,6 +67,7 @@ read_more image bytes held i t old new h pos lt at passes puts so_far =
           }
     ]
 
+-- all slots are read
 pub read_all : (image held : List ℕ) (i : ℕ) (t table : Table) → Holds image held t → IsPage image → 0 < i → length (content image) ≤ i → IsRead image t i table → table ≡ t
 read_all image held i t table h page pos le so_far =
     let slots : ℕ → List ℕ = slot_at (content image) in
@@ -82,6 +85,7 @@ pub record IsKeyTest (cols : List Column) (bytes : List ℕ) (row : List Value) 
   pub full : IsTrue r → bytes ≢ []
   pub same : (read : List Value) → bytes ≢ [] → row_of cols bytes ≡ Some read → (IsTrue r ↔ (key_of cols read ≡ key_of cols row))
 
+-- one slot more lacks the key
 pub lacks_more : (image bytes : List ℕ) (cols : List Column) (row : List Value) (i : ℕ) (r : Bool) → bytes ≡ slot_at (content image) i → IsKeyTest cols bytes row r → r ≡ false → LacksKey image cols row i → LacksKey image cols row (i + 1)
 lacks_more image bytes cols row i r at test isnt lacks = record {
   each = λ j read pos lt full e same. elim (cases_lt j i) [
@@ -94,6 +98,7 @@ lacks_more image bytes cols row i r at test isnt lacks = record {
   ];
 }
 
+-- a slot has the key
 pub key_there : (image bytes held : List ℕ) (cols : List Column) (row : List Value) (i : ℕ) (t : Table) (r : Bool) → Holds image held t → cols ≡ t.cols → 0 < i → i < 4048 → bytes ≡ slot_at (content image) i → IsKeyTest cols bytes row r → r ≡ true →
     true ≡ finite.contains_key t.rows (key_of t.cols row)
 key_there image bytes held cols row i t r h same_cols pos lt at test yes_it_is =
@@ -109,6 +114,7 @@ key_there image bytes held cols row i t r h same_cols pos lt at test yes_it_is =
           sym (ap (λ (k : List Value). finite.contains_key t.rows k) (sym same) ∙ ap is_some there)
     ]
 
+-- no slot has the key
 pub key_absent : (image held : List ℕ) (cols : List Column) (row : List Value) (i : ℕ) (t : Table) → Holds image held t → cols ≡ t.cols → length (content image) ≤ i → LacksKey image cols row i → false ≡ finite.contains_key t.rows (key_of t.cols row)
 key_absent image held cols row i t h same_cols le lacks =
     let page : ℕ → List ℕ = slot_at (content image) in

@@ -1,9 +1,9 @@
 -- The cells of a key: the first column of each place, and rows of the same key.
-use Rattle.std.proofs.Common.{◌≡◌, ◌≢◌, ◌<◌, ◌≤◌, ◌+◌, ◌-◌, ℕ, zero, suc, Bool, true, false, cond, ◌&&◌, ◌||◌, List, [], ◌∷◌, length, get_or, drop, map, refl, ap, sym, ◌∙◌, nat_eq, arith, eq-eqb, eqb-true, inl, inr}
+use Rattle.std.proofs.Common.{◌≡◌, ◌≢◌, ◌<◌, ◌≤◌, ◌+◌, ◌-◌, ℕ, zero, suc, Bool, true, false, ◌&&◌, ◌||◌, List, [], ◌∷◌, length, get_or, drop, map, refl, ap, sym, ◌∙◌, nat_eq, arith, eq-eqb, eqb-true, inl, inr}
 use Rattle.std.specs.Prelude.{nat_le}
-use Rattle.std.specs.List.{list_any, range_with_len, AllByRecursion}
+use Rattle.std.specs.List.{list_any, range_with_len}
 use Rattle.std.specs.Str.{bytes_eq}
-use Rattle.std.proofs.lemmas.Bool.{ne_eqb, cases_eq, cases_Bool}
+use Rattle.std.proofs.lemmas.Bool.{ne_eqb, cases_Bool}
 use Rattle.std.proofs.lemmas.Bool.Decides.{nat_tests}
 use Rattle.std.proofs.lemmas.List.{drop_more, drop-drop, get_or-drop}
 use Rattle.std.proofs.lemmas.List.FromFn.{get_or-map-range_with_len}
@@ -11,7 +11,7 @@ use Rattle.page_base.specs.declared.column.Column.{Column}
 use Rattle.page_base.specs.declared.value.Value.{Value}
 use Rattle.page_base.specs.declared.value.Value.TheVariants.{Null}
 use Rattle.plain_model.specs.declared.stmt.SetItem.{SetItem}
-use Rattle.plain_model.specs.Meaning.{literal, is_key_column, set_value, with_sets}
+use Rattle.plain_model.specs.Meaning.{is_key_column, set_value, with_sets}
 use Rattle.plain_model.specs.Tables.{key_cell, key_size, key_of}
 
 no_cells : (cols : List Column) (place : ℕ) → key_cell cols [] place ≡ Null
@@ -23,6 +23,7 @@ pass : (c : Column) (cols : List Column) (row : List Value) (place : ℕ) → c.
 pass c cols [] place ne = sym (no_cells cols place)
 pass c cols (v ∷ row) place ne = let e : nat_eq c.key place ≡ false = ne_eqb c.key place ne in rw e refl
 
+-- the columns before it are passed
 pub key_cell-past : (cols : List Column) (row : List Value) (i place : ℕ) (c : Column) → i < length cols → c ≡ get_or cols i c → c.key ≢ place →
     key_cell (drop i cols) (drop i row) place ≡ key_cell (drop (i + 1) cols) (drop (i + 1) row) place
 key_cell-past cols row i place c in' is ne =
@@ -51,11 +52,13 @@ same_cells f g a (suc n) h =
     let later = same_cells f g (a + 1) n (λ p low high. h p (omega arith) (omega arith)) in
     λ t. first t ∷ later t
 
+-- rows with the same cells have the same key
 pub key_of-same : (cols : List Column) (a b : List Value) → ((p : ℕ) → p < key_size cols → key_cell cols a (p + 1) ≡ key_cell cols b (p + 1)) → key_of cols a ≡ key_of cols b
 key_of-same cols a b h = same_cells (key_cell cols a) (key_cell cols b) 1 (key_size cols) (λ p low high.
     let at : (p - 1) + 1 ≡ p = omega arith in
     ap (key_cell cols a) (sym at) ∙ h (p - 1) (omega arith) ∙ ap (key_cell cols b) at)
 
+-- rows with the same key have the same cells
 pub key_cell-same : (cols : List Column) (a b : List Value) → key_of cols a ≡ key_of cols b → (p : ℕ) → p < key_size cols → key_cell cols a (p + 1) ≡ key_cell cols b (p + 1)
 key_cell-same cols a b e p lt =
     sym (get_or-map-range_with_len (key_cell cols a) 1 (key_size cols) p (p + 1) Null lt (omega arith))

@@ -1,5 +1,5 @@
 -- Every value of a finite map changed in its place.
-use Rattle.std.proofs.Common.{◌≡◌, ◌≢◌, ℕ, zero, suc, ◌<◌, ◌+◌, Bool, true, false, cond, ◌&&◌, ◌||◌, T, List, [], ◌∷◌, map, refl, ap, sym, ◌∙◌, subst, arith}
+use Rattle.std.proofs.Common.{◌≡◌, ℕ, zero, suc, ◌<◌, Bool, true, false, cond, ◌||◌, T, List, [], ◌∷◌, map, refl, ap, sym, ◌∙◌, subst, arith}
 use Rattle.std.specs.Prelude.{Option, Some, None}
 use Rattle.std.specs.Option.{is_some, option_map}
 use Rattle.std.specs.List.{list_any, AllByRecursion}
@@ -10,7 +10,7 @@ use Rattle.std.specs.Cmp.{IsTotalOrder, eq_by_cmp_equiv}
 use Rattle.std.specs.FinMap as finite
 use Rattle.std.specs.FinMap.{FinMap, IsAntisymmetric, get-insert, get-empty, get-entries, entries_sorted, contains_key-keys, same_map, is_sorted, find}
 use Rattle.std.specs.FinMap.Entries.{below_all}
-use Rattle.std.proofs.lemmas.Bool.{cases_Bool, and_parts}
+use Rattle.std.proofs.lemmas.Bool.{and_parts}
 use Rattle.std.proofs.lemmas.Option.{same_Some, none-some}
 use Rattle.table_pages.specs.Gathered.{Item, Skip, Bad, Has, joined, collect}
 use Rattle.table_pages.proofs.CollectLemmas.{left, has_joined, join_new, no_Some, ties}
@@ -29,6 +29,7 @@ less_isnt Greater e = absurd (let wrong : false ≡ true = e in cc)
 module _ {K X : Type 0} {R : K → K → Ordering} (o : IsTotalOrder R) (same : IsAntisymmetric R) where
   -- ALL PLACES CHANGE THEIR VALUES
 
+  -- the map that the changed places give
   pub record Mapped (h : X → X) (g : ℕ → Item K X) (n : ℕ) (m : FinMap R X) : Type 0 where
     pub new : FinMap R X
     pub gathered : collect g n ≡ Some new
@@ -52,6 +53,7 @@ module _ {K X : Type 0} {R : K → K → Ordering} (o : IsTotalOrder R) (same : 
             ∙ ap (option_map h) (sym (get-insert o before k x q) ∙ ap (λ t. finite.get t q) (sym j.is));
       }
 
+  -- each place changes its value
   pub collect_mapped : (h : X → X) (f g : ℕ → Item K X) (n : ℕ) (m : FinMap R X) → collect f n ≡ Some m → ((i : ℕ) → i < n → g i ≡ item_map h (f i)) → Mapped h g n m
   collect_mapped h f g zero m e each =
       let is : finite.empty ≡ m = same_Some _ _ e in
@@ -78,6 +80,7 @@ module _ {K X : Type 0} {R : K → K → Ordering} (o : IsTotalOrder R) (same : 
   keys_step key Bad before m e h keys = no_Some m (sym e)
   keys_step key (Has k x) before m e h keys = let j = has_joined o same k x before m e in subst (HasKeys key) (sym j.is) (keys_more key k x before (h k x refl) keys)
 
+  -- values that stand at their keys stand so in the map
   pub collect_keys : (key : X → K) (f : ℕ → Item K X) (n : ℕ) (m : FinMap R X) → collect f n ≡ Some m → ((i : ℕ) (k : K) (x : X) → i < n → f i ≡ Has k x → key x ≡ k) → HasKeys key m
   collect_keys key f zero m e h = λ q x f_is. absurd (none-some x (sym (get-empty R q) ∙ ap (λ (t : FinMap R X). finite.get t q) (same_Some _ _ e) ∙ f_is))
   collect_keys key f (suc n) m e h =

@@ -34,6 +34,7 @@ not_false : (b : Bool) → not b ≡ true → b ≡ false
 not_false true h = cc
 not_false false h = refl
 
+-- what the test says
 pub IsLowName-true : (bs : List ℕ) → is_low_name bs ≡ true → IsLowName bs
 IsLowName-true bs h =
     let last = and_parts (nat_lt 0 (length bs) && nat_le (length bs) 128 && not (is_ascii_digit (slice_index bs 0))) (list_all is_low_byte bs) h in
@@ -50,6 +51,7 @@ IsLowName-true bs h =
       low = bytes.1;
     }
 
+-- what the test answers
 pub IsLowName-back : (bs : List ℕ) → IsLowName bs → is_low_name bs ≡ true
 IsLowName-back bs h =
     let first : nat_lt 0 (length bs) ≡ true = grind (arith, nat_tests, h.name.some) in

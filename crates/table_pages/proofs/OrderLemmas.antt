@@ -1,11 +1,10 @@
 -- Only equal values, keys and names tie.
-use Rattle.std.proofs.Common.{◌≡◌, ℕ, List, [], refl, ap, sym}
+use Rattle.std.proofs.Common.{◌≡◌, refl, ap}
 use Rattle.std.specs.Ordering.{nat_cmp, int_cmp, ordering_then}
 use Rattle.std.specs.Cmp.Lexicographic.{slice_cmp}
 use Rattle.std.specs.FinMap.{IsAntisymmetric, nat_cmp-IsAntisymmetric, int_cmp-IsAntisymmetric, slice_cmp-IsAntisymmetric}
 use Rattle.std.specs.declared.cmp.Ordering.{Ordering}
 use Rattle.std.specs.declared.cmp.Ordering.TheVariants.{Less, Equal, Greater}
-use Rattle.page_base.specs.declared.value.Value.{Value}
 use Rattle.page_base.specs.declared.value.Value.TheVariants.{Null, Int, Big, Text}
 use Rattle.page_base.specs.Order.{value_cmp, key_cmp}
 
@@ -32,8 +31,10 @@ value_cmp-exact (Text a) (Int b) e = cc
 value_cmp-exact (Text a) (Big b) e = cc
 value_cmp-exact (Text a) (Text b) e = ap Text (slice_cmp-IsAntisymmetric nat_cmp-IsAntisymmetric a b e)
 
+-- only equal keys tie
 pub keys_exact : IsAntisymmetric key_cmp
 keys_exact = slice_cmp-IsAntisymmetric value_cmp-exact
 
+-- only equal names tie
 pub names_exact : IsAntisymmetric (slice_cmp nat_cmp)
 names_exact = slice_cmp-IsAntisymmetric nat_cmp-IsAntisymmetric

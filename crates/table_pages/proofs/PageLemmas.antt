@@ -1,7 +1,6 @@
 -- What stands on a page that holds a table, and on a blank one.
-use Rattle.std.proofs.Common.{◌≡◌, ◌≢◌, ℕ, zero, suc, ◌+◌, ◌-◌, ◌<◌, ◌≤◌, Bool, true, false, cond, ◌&&◌, ◌==◌, inl, inr, List, [], ◌∷◌, length, get_or, refl, ap, sym, ◌∙◌, subst, arith, eqb-true}
-use Rattle.std.specs.Prelude.{Option, Some, None, Ok}
-use Rattle.std.specs.Option.{is_some}
+use Rattle.std.proofs.Common.{◌≡◌, ◌≢◌, ℕ, zero, suc, ◌+◌, ◌-◌, ◌<◌, ◌≤◌, Bool, true, false, cond, ◌==◌, inl, inr, List, [], ◌∷◌, length, refl, ap, sym, ◌∙◌, arith, eqb-true}
+use Rattle.std.specs.Prelude.{Option, Some, None}
 use Rattle.std.specs.FinMap as finite
 use Rattle.std.proofs.lemmas.Bool.{and_parts, cases_lt}
 use Rattle.std.proofs.lemmas.List.{get_or_past}
@@ -16,11 +15,12 @@ use Rattle.table_pages.specs.Gathered.{Item, Skip, Bad, Has, joined, collect}
 use Rattle.table_pages.specs.Rows.{row_of}
 use Rattle.table_pages.specs.Headers.{header_of}
 use Rattle.table_pages.specs.Layout.{keyed, row_item, row_at, rows_in, are_empty, is_bare, with_rows, with_header, with_front, table_item}
-use Rattle.table_pages.proofs.CollectLemmas.{left, has_joined, same_Some, collect_at, collect_lacks, collect_good, collect_front, collect_tail, collect_none}
+use Rattle.table_pages.proofs.CollectLemmas.{has_joined, same_Some, collect_at, collect_lacks, collect_good, collect_front, collect_tail, collect_none}
 use Rattle.table_pages.proofs.OrderLemmas.{keys_exact}
 
 -- A PAGE WITH A TABLE
 
+-- slot 0 says this name and these columns, and the other slots are these rows
 pub record IsTable (page : ℕ → List ℕ) (name : List ℕ) (t : Table) : Type 0 where
   pub full : page 0 ≢ []
   pub header : header_of (page 0) ≡ Some (name, t.cols)
@@ -39,6 +39,7 @@ full_bytes b bs e = cc
 has_is : (n name : List ℕ) (u t : Table) → ◌≡◌ {A = TableItem} (Has n u) (Has name t) → (n ≡ name) × (u ≡ t)
 has_is n name u t e = (cc, cc)
 
+-- the table that was found on a page
 pub table_is : (page : ℕ → List ℕ) (name : List ℕ) (t : Table) → table_item page ≡ Has name t → IsTable page name t
 unfolding table_item
 table_is page name t e = by_front (page 0) refl e
@@ -62,6 +63,7 @@ table_is page name t e = by_front (page 0) refl e
     by_front [] at e = absurd (skip_or_bad (is_bare page) name t e)
     by_front (b ∷ bs) at e = by_header (b ∷ bs) (header_of (b ∷ bs)) at (full_bytes b bs) refl e
 
+-- the table that slots say
 pub table_of : (page : ℕ → List ℕ) (name : List ℕ) (cols : List Column) (rows : Rows) → page 0 ≢ [] → header_of (page 0) ≡ Some (name, cols) → rows_in cols page ≡ Some rows →
     table_item page ≡ Has name (record { cols = cols; rows = rows })
 unfolding table_item
@@ -76,6 +78,7 @@ table_of page name cols rows full h r = by_front (page 0) full h ∙ ap (with_ro
 abbrev skip : TableItem
 skip = Skip
 
+-- a page that is passed over is blank
 pub skip_is : (page : ℕ → List ℕ) → table_item page ≡ Skip → (page 0 ≡ []) × (is_bare page ≡ true)
 unfolding table_item
 skip_is page e = by_front (page 0) refl e
@@ -123,6 +126,7 @@ bare_skips page none = ap (λ (s : List ℕ). with_front s page) (none 0) ∙ ap
     all_empty zero = refl
     all_empty (suc n) = rw (none (n + 1)) (all_empty n)
 
+-- empty slots hold no rows
 pub bare_rows : (cols : List Column) (page : ℕ → List ℕ) → ((j : ℕ) → 0 < j → j < 4048 → page j ≡ []) → rows_in cols page ≡ Some finite.empty
 unfolding rows_in
 bare_rows cols page h = collect_none key_cmp_total keys_exact (row_at cols page) 4047 (λ i lt. ap (row_item cols) (h (i + 1) (omega arith) (omega arith)))
@@ -151,6 +155,7 @@ slot_past image i le = get_or_past (content image) i [] le
 abbrev RowItem : Type 0
 RowItem = Item (List Value) (List Value)
 
+-- an empty slot
 pub row_skip : (cols : List Column) (bytes : List ℕ) → bytes ≡ [] → row_item cols bytes ≡ Skip
 row_skip cols bytes e = ap (row_item cols) e
 
@@ -164,6 +169,7 @@ pub data IsSlot (cols : List Column) (bytes : List ℕ) : Type 0 where
   Empty : bytes ≡ [] → IsSlot cols bytes
   Row : (row : List Value) → bytes ≢ [] → row_of cols bytes ≡ Some row → IsSlot cols bytes
 
+-- a slot that isn't bad
 pub slot_is : (cols : List Column) (bytes : List ℕ) → row_item cols bytes ≢ Bad → IsSlot cols bytes
 slot_is cols [] good = Empty refl
 slot_is cols (b ∷ bs) good = by (row_of cols (b ∷ bs)) refl
@@ -211,6 +217,7 @@ module _ (cols : List Column) (page : ℕ → List ℕ) (all : Rows) (whole : ro
     Passes : page i ≡ [] → collect (row_at cols page) i ≡ Some m → Front i m
     Puts : (row : List Value) → page i ≢ [] → row_of cols (page i) ≡ Some row → collect (row_at cols page) i ≡ Some (finite.insert m (key_of cols row) row) → Front i m
 
+  -- the rows up to one slot more
   pub front_more : (i : ℕ) (m : Rows) → 0 < i → i < 4048 → collect (row_at cols page) (i - 1) ≡ Some m → Front i m
   front_more i m pos lt so_far =
       let up : suc (i - 1) ≡ i = omega arith in

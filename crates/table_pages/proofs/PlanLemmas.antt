@@ -1,5 +1,5 @@
 -- What the edit of a new table and that of a new row carry the pages to.
-use Rattle.std.proofs.Common.{◌≡◌, ◌≢◌, ℕ, zero, suc, ◌+◌, ◌-◌, ◌*◌, ◌<◌, ◌≤◌, max, Bool, true, false, inl, inr, List, [], ◌∷◌, ◌++◌, length, All, refl, ap, sym, ◌∙◌, subst, arith}
+use Rattle.std.proofs.Common.{◌≡◌, ◌≢◌, ℕ, zero, suc, ◌+◌, ◌-◌, ◌*◌, ◌<◌, ◌≤◌, max, true, false, inl, inr, List, [], ◌∷◌, ◌++◌, length, All, refl, ap, sym, ◌∙◌, subst, arith}
 use Rattle.std.specs.Prelude.{Option, Some, None}
 use Rattle.std.specs.Option.{is_some}
 use Rattle.std.specs.FinMap as finite
@@ -18,21 +18,21 @@ use Rattle.page_fmt.specs.Spelling as spelling
 use Rattle.page_fmt.specs.Content.{content, IsPage}
 use Rattle.page_fmt.specs.Edits.{edited, slot_at}
 use Rattle.page_fmt.proofs.CallerLemmas.{IsPage-blank, content-blank, same_page}
-use Rattle.plain_model.specs.Tables.{Rows, Table, Tables, Add, Put, changed, applied, with_row, key_of}
+use Rattle.plain_model.specs.Tables.{Table, Tables, Add, Put, changed, applied, with_row, key_of}
 use Rattle.plain_model.specs.Sound.{is_definition}
 use Rattle.plain_model.specs.Next.{is_int}
-use Rattle.snap_pages.specs.Shown.{Shown, img, counts, IsThere}
+use Rattle.snap_pages.specs.Shown.{Shown, img, IsThere}
 use Rattle.snap_pages.specs.Slots.{slots_of}
 use Rattle.table_pages.specs.declared.edit.Edit.{Edit}
-use Rattle.table_pages.specs.Gathered.{Item, Skip, Bad, Has, collect}
+use Rattle.table_pages.specs.Gathered.{Item, Skip, Bad, Has}
 use Rattle.table_pages.specs.Rows.{is_int_value, row_bytes, row_of}
 use Rattle.table_pages.specs.Headers.{column_bytes, header, header_of}
 use Rattle.table_pages.specs.Names.{AreKept}
 use Rattle.table_pages.specs.Fitting.{FitInts}
-use Rattle.table_pages.specs.Layout.{row_item, row_at, rows_in, is_bare, table_item, place, table_at, tables_of, IsBlankAt, IsPacked}
-use Rattle.table_pages.specs.Edits.{done, HasRoom, FitIn, Change}
+use Rattle.table_pages.specs.Layout.{row_item, row_at, rows_in, table_item, place, table_at, tables_of, IsPacked}
+use Rattle.table_pages.specs.Edits.{HasRoom}
 use Rattle.table_pages.specs.Carried.{data_pages, decoded, Holds, Carries, IsFirstBlank, IsFirstEmpty}
-use Rattle.table_pages.proofs.CollectLemmas.{collect_new, collect_set, collect_good, no_Some}
+use Rattle.table_pages.proofs.CollectLemmas.{collect_new, collect_set, collect_good}
 use Rattle.table_pages.proofs.OrderLemmas.{names_exact, keys_exact}
 use Rattle.table_pages.proofs.HeaderLemmas.{header_again}
 use Rattle.table_pages.proofs.RowLemmas.{row_of-row_bytes}
@@ -40,6 +40,7 @@ use Rattle.table_pages.proofs.PageLemmas.{table_is, table_of, skip_is, bare_slot
 use Rattle.table_pages.proofs.RoomLemmas.{used-edited, row_bytes-some}
 use Rattle.table_pages.proofs.CallerLemmas.{found_there, blank_holds_none}
 
+-- different tables have different pages
 pub places_apart : (q j : ℕ) → q ≢ j → place q ≢ place j
 places_apart q j ne e = let pages : q + 1 ≡ j + 1 = ap (λ (p : PageId). p.page) e in ne (omega arith)
 
@@ -88,10 +89,12 @@ row_packed n slots p slot x low packed = record { behind = λ a b lt high at_a. 
 
 -- A NEW TABLE
 
+-- a header has bytes
 pub header_full : (name : List ℕ) (cols : List Column) → (b : ℕ) × (bs : List ℕ) × (header name cols ≡ b ∷ bs)
 unfolding header
 header_full name cols = (length name, name ++ length cols ∷ flat_map column_bytes cols, refl)
 
+-- a list with an element
 pub not_nil : (x : List ℕ) (b : ℕ) (bs : List ℕ) → x ≡ b ∷ bs → x ≢ []
 not_nil x b bs e f = let wrong : b ∷ bs ≡ [] = sym e ∙ f in cc
 
@@ -141,6 +144,7 @@ module _ (v : Shown) (name : List ℕ) (cols : List Column) (i : ℕ) (tables : 
   create_says = collect_new nat_list_cmp_total names_exact (table_at (slots_of (img v))) (table_at (with_slot (slots_of (img v)) (place i) 0 (header name cols))) (data_pages v) i tables name (record { cols = cols; rows = finite.empty })
       e blank_at.within skips new new_item (λ q ne. table_at-other (slots_of (img v)) i 0 (header name cols) q ne)
 
+  -- the edit of a new table carries the pages to the tables with it
   pub create_carries : Carries v (record { page = place i; slot = 0; bytes = header name cols } ∷ []) (applied (Add name cols) tables)
   create_carries = one_edit v (record { page = place i; slot = 0; bytes = header name cols }) (applied (Add name cols) tables) (page_there v i blank_at.within)
       (record { index = omega arith; short = short; room = room }) (λ same. full (same ∙ blank_at.blank)) create_says (front_packed v i (header name cols) packed blank_at full)
@@ -191,6 +195,7 @@ module _ (v : Shown) (i slot : ℕ) (row : List Value) (name : List ℕ) (t : Ta
       (λ q ne. table_at-other (slots_of (img v)) i slot (row_bytes row) q ne)
       ∙ ap (λ (o : Option Table). Some (changed tables name o (with_row row))) (sym (found_there (data_pages v) (slots_of (img v)) tables e i name t within holds))
 
+  -- the edit of a new row carries the pages to the tables with it
   pub insert_carries : Carries v (record { page = place i; slot = slot; bytes = row_bytes row } ∷ []) (applied (Put name row) tables)
   insert_carries =
       let used_is = used-edited (content (img v (place i))) slot (row_bytes row) first.empty (row_bytes-some row some) in

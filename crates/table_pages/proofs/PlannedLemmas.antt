@@ -1,15 +1,13 @@
 -- The plan of an UPDATE, slot by slot.
-use Rattle.std.proofs.Common.{◌≡◌, ◌≢◌, ℕ, zero, suc, ◌+◌, ◌-◌, ◌<◌, ◌≤◌, Bool, true, false, cond, inl, inr, List, [], ◌∷◌, ◌++◌, length, map, All, refl, ap, sym, ◌∙◌, subst, arith}
-use Rattle.std.specs.Prelude.{Option, Some, None, OnOk}
-use Rattle.std.specs.FinMap as finite
-use Rattle.std.specs.List.{list_all, list_any, AllByRecursion}
+use Rattle.std.proofs.Common.{◌≡◌, ◌≢◌, ℕ, ◌+◌, ◌<◌, ◌≤◌, Bool, true, false, cond, inl, inr, List, [], ◌∷◌, ◌++◌, length, map, refl, ap, sym, ◌∙◌, subst, arith}
+use Rattle.std.specs.Prelude.{Some}
+use Rattle.std.specs.List.{list_any, AllByRecursion}
 use Rattle.std.specs.Cmp.Lexicographic.{nat_list_cmp_total}
 use Rattle.std.proofs.lemmas.Bool.{cases_lt, cases_eq}
 use Rattle.std.proofs.lemmas.List.Elements.{All-from_recursion}
 use Rattle.page_base.specs.declared.column.Column.{Column}
 use Rattle.page_base.specs.declared.numbers.PageId.{PageId}
 use Rattle.page_base.specs.declared.value.Value.{Value}
-use Rattle.page_base.specs.Pages.{set_at}
 use Rattle.page_base.specs.Slots.{Slots, with_slot}
 use Rattle.page_base.proofs.PagesLemmas.{is_page-same}
 use Rattle.page_base.proofs.SlotsLemmas.{with_slot-same, with_slot-slot, with_slot-page}
@@ -19,20 +17,20 @@ use Rattle.page_fmt.specs.Edits.{edited, slot_at}
 use Rattle.plain_model.specs.declared.stmt.SetItem.{SetItem}
 use Rattle.plain_model.specs.Tables.{Table, Tables, Put, apply}
 use Rattle.plain_model.specs.Meaning.{is_key_column, with_sets, updated_rows}
-use Rattle.snap_pages.specs.Shown.{Shown, img, counts, IsThere}
+use Rattle.snap_pages.specs.Shown.{Shown, img, IsThere}
 use Rattle.snap_pages.specs.Slots.{slots_of}
 use Rattle.table_pages.specs.declared.edit.Edit.{Edit}
 use Rattle.table_pages.specs.Gathered.{Has}
 use Rattle.table_pages.specs.Rows.{row_bytes, row_of}
 use Rattle.table_pages.specs.Fitting.{FitInts}
 use Rattle.table_pages.specs.Layout.{table_item, place, table_at, tables_of, IsPacked}
-use Rattle.table_pages.specs.Edits.{done, HasRoom, FitIn, Change, AreInOrder}
+use Rattle.table_pages.specs.Edits.{done, FitIn, Change, AreInOrder}
 use Rattle.table_pages.specs.Plans.{edit_of, Adds, Stays, Changes, Plans}
 use Rattle.table_pages.specs.Carried.{data_pages, decoded, Holds, Carries}
 use Rattle.table_pages.proofs.CollectLemmas.{collect_set}
 use Rattle.table_pages.proofs.OrderLemmas.{names_exact}
 use Rattle.table_pages.proofs.SetsLemmas.{are_small, IsUpdated, Empty, Row, same_length, some_bytes}
-use Rattle.table_pages.proofs.DoneLemmas.{Contents, after, slots_in, slots_after, done_more, after_more, fit_more, change_more, each_more, order_more, below_later, set_same, slot_short}
+use Rattle.table_pages.proofs.DoneLemmas.{Contents, after, slots_after, done_more, after_more, fit_more, change_more, each_more, order_more, below_later, set_same, slot_short}
 use Rattle.table_pages.proofs.PageLemmas.{table_is, page_slot, few_slots, slot_past}
 use Rattle.table_pages.proofs.PageLemmas as page
 use Rattle.table_pages.proofs.PlanLemmas.{places_apart}
@@ -54,6 +52,7 @@ module _ (v : Shown) (i : ℕ) (sets : List SetItem) (cols : List Column) where
     pub later : (j : ℕ) → k ≤ j → done edits (slots_of (img v)) (place i) j ≡ slots_of (img v) (place i) j
     pub others : (q : PageId) → q ≢ place i → done edits (slots_of (img v)) q ≡ slots_of (img v) q
 
+  -- nothing is planned yet
   pub planned_none : IsPage (img v (place i)) → Planned [] 1
   planned_none page = record {
     there = tt;
@@ -88,6 +87,7 @@ module _ (v : Shown) (i : ℕ) (sets : List SetItem) (cols : List Column) where
     later = λ j le. p.later j (omega arith);
   }
 
+  -- an empty slot is left alone
   pub planned_empty : (edits : List Edit) (k : ℕ) → slots_of (img v) (place i) k ≡ [] → Planned edits k → Planned edits (k + 1)
   planned_empty edits k empty p = stands edits k p (Empty empty (p.later k (omega arith) ∙ empty))
 
@@ -134,6 +134,7 @@ module _ (v : Shown) (i : ℕ) (sets : List SetItem) (cols : List Column) where
           others = λ q apart. (λ t. done_is t q) ∙ with_slot-page (done old s) (place i) q k bytes apart ∙ p.others q apart;
         }
 
+    -- a row's slot is planned
     pub planned_more : (old new : List Edit) → Adds old new (edit_of (place i) k (with_sets sets cols row)) (slots_of (img v) (place i) k) → Planned old k → Planned new (k + 1)
     planned_more old new (Stays same is) p = subst (λ (es : List Edit). Planned es (k + 1)) (sym is) (stands old k p (Row row full e fits (p.later k (omega arith) ∙ sym same)))
     planned_more old new (Changes ne is) p = subst (λ (es : List Edit). Planned es (k + 1)) (sym is) (more old p ne)
@@ -197,6 +198,7 @@ module _ (v : Shown) (i : ℕ) (sets : List SetItem) (name : List ℕ) (t : Tabl
     | inr ne ↦ λ t. p.others (place q) (places_apart q i ne) t 0
   ]
 
+  -- the plan carries the pages to the tables after the UPDATE
   pub update_carries : Carries v edits (apply (map (Put name) (updated_rows sets t)) tables)
   update_carries = record {
     there = All-from_recursion (λ (d : Edit). IsThere v d.page) edits (all_there edits p.there);

@@ -1,5 +1,5 @@
 -- Where a new row goes, and whether it has room.
-use Rattle.std.proofs.Common.{◌≡◌, ◌≢◌, ℕ, zero, suc, ◌+◌, ◌-◌, ◌*◌, ◌<◌, ◌≤◌, max, Bool, true, false, inl, inr, IsTrue, List, [], ◌∷◌, ◌++◌, length, get_or, replicate, leb, refl, ap, sym, ◌∙◌, subst, arith, length-append, eqb-true, eq-eqb, ◌==◌}
+use Rattle.std.proofs.Common.{◌≡◌, ◌≢◌, ℕ, ◌+◌, ◌-◌, ◌*◌, ◌<◌, ◌≤◌, max, Bool, true, false, inl, inr, IsTrue, List, [], ◌∷◌, ◌++◌, length, get_or, replicate, leb, refl, ap, sym, ◌∙◌, subst, arith, length-append, eqb-true, eq-eqb, ◌==◌}
 use Rattle.std.specs.Prelude.{◌↔◌}
 use Rattle.std.specs.List.{flat_map}
 use Rattle.std.proofs.lemmas.Bool.{cases_lt, leb-true, le-leb}
@@ -7,7 +7,7 @@ use Rattle.std.proofs.lemmas.List.{length-replicate}
 use Rattle.page_base.specs.declared.value.Value.{Value}
 use Rattle.page_fmt.specs.Spelling as spelling
 use Rattle.page_fmt.specs.Content.{content, le16_at, IsPage}
-use Rattle.page_fmt.specs.Edits.{set_slot, edited, slot_at}
+use Rattle.page_fmt.specs.Edits.{edited, slot_at}
 use Rattle.page_fmt.proofs.SlotLemmas.{length-set_slot, row_bytes-set_slot}
 use Rattle.page_fmt.proofs.SpellingLemmas.{page_bytes}
 use Rattle.table_pages.specs.Rows.{null_bytes, value_bytes, row_bytes}
@@ -27,6 +27,7 @@ used-edited slots i (b ∷ bs) empty some =
     let none : length (get_or slots i []) ≡ 0 = ap length empty in
     omega arith
 
+-- the test of room
 pub room_test : (slots : List (List ℕ)) (i : ℕ) (x : List ℕ) (free count : ℕ) → slot_at slots i ≡ [] → 0 < length x → count ≡ max (length slots) (i + 1) → free ≡ 8192 - (96 + spelling.row_bytes slots + 2 * count) →
     (IsTrue (leb (length x) free) ↔ (spelling.used (edited slots i x) ≤ 8192))
 room_test slots i x free count empty some count_is free_is =
@@ -41,6 +42,7 @@ no_length (x ∷ xs) e = absurd (omega arith)
 abbrev pub AreFull : List ℕ → ℕ → Type 0
 AreFull image i = (j : ℕ) → 0 < j → j < i → slot_at (content image) j ≢ []
 
+-- one more slot is full
 pub full_more : (image bytes : List ℕ) (i : ℕ) (r : Bool) → bytes ≡ slot_at (content image) i → r ≡ (length bytes == 0) → r ≡ false → AreFull image i → AreFull image (i + 1)
 full_more image bytes i r at test isnt full j pos lt empty = elim (cases_lt j i) [
   | inl low ↦ full j pos low empty
@@ -50,11 +52,13 @@ full_more image bytes i r at test isnt full j pos lt empty = elim (cases_lt j i)
       absurd (let wrong : true ≡ false = sym (eq-eqb (length bytes) 0 none) ∙ sym test ∙ isnt in cc)
 ]
 
+-- the first empty slot, among the others
 pub empty_here : (image bytes : List ℕ) (i : ℕ) (r : Bool) → IsPage image → bytes ≡ slot_at (content image) i → r ≡ (length bytes == 0) → r ≡ true → 0 < i → i < length (content image) → AreFull image i → IsFirstEmpty image i
 empty_here image bytes i r page at test is pos lt full =
     let few = few_slots image page in
     record { low = pos; high = omega arith; empty = sym at ∙ no_length bytes (eqb-true (length bytes) 0 (sym test ∙ is)); first = full }
 
+-- the first empty slot, behind all others
 pub empty_behind : (image : List ℕ) (i count slot : ℕ) → IsPage image → count ≡ length (content image) → count ≤ i → slot ≡ max count 1 → AreFull image i → IsFirstEmpty image slot
 empty_behind image i count slot page count_is past slot_is full =
     let few = few_slots image page in

@@ -1,9 +1,9 @@
 -- A row that was written is read again, and what is read is a row of INTs.
-use Rattle.std.proofs.Common.{◌≡◌, ℕ, zero, suc, ◌+◌, ◌-◌, ◌*◌, ◌<◌, ◌≤◌, min, Bool, true, false, cond, ◌&&◌, ◌==◌, List, [], ◌∷◌, ◌++◌, length, get_or, take, drop, replicate, refl, ap, sym, ◌∙◌, subst, arith, eq-eqb, eqb-true, length-append, length-drop, append_assoc}
-use Rattle.std.specs.Prelude.{Option, Some, None}
-use Rattle.std.specs.List.{list_all, flat_map, AllByRecursion}
+use Rattle.std.proofs.Common.{◌≡◌, ℕ, zero, suc, ◌+◌, ◌-◌, ◌*◌, ◌<◌, min, Bool, true, false, cond, ◌&&◌, ◌==◌, List, [], ◌∷◌, ◌++◌, length, get_or, take, drop, replicate, refl, ap, sym, ◌∙◌, arith, eq-eqb, eqb-true, length-append, length-drop}
+use Rattle.std.specs.Prelude.{Some, None}
+use Rattle.std.specs.List.{list_all, flat_map}
 use Rattle.std.proofs.lemmas.Bool.{and_parts}
-use Rattle.std.proofs.lemmas.List.{append-nil, take_at, drop_at, take_all, drop-drop, length-replicate}
+use Rattle.std.proofs.lemmas.List.{take_at, drop_at, take_all, drop-drop, length-replicate}
 use Rattle.std.proofs.lemmas.Option.{same_Some, none-some}
 use Rattle.page_base.specs.declared.column.Column.{Column}
 use Rattle.page_base.specs.declared.value.Value.{Value}
@@ -11,11 +11,12 @@ use Rattle.page_base.specs.declared.value.Value.TheVariants.{Null, Int, Big, Tex
 use Rattle.plain_model.specs.Next.{is_int}
 use Rattle.table_pages.specs.Numbers.{int, int_in}
 use Rattle.table_pages.specs.Rows.{null_bytes, is_int_value, value_bytes, row_bytes, ints_in, is_row, row_of}
-use Rattle.table_pages.specs.Fitting.{FitsInt, FitInts}
+use Rattle.table_pages.specs.Fitting.{FitInts}
 use Rattle.table_pages.proofs.NumberLemmas.{int_in-int, drop-number, length-number}
 
 -- WHAT IS READ
 
+-- the bytes of a row of INTs
 pub record IsRow (cols : List Column) (bytes : List ℕ) (row : List Value) : Type 0 where
   pub ints : list_all is_int cols ≡ true
   pub long : length bytes ≡ null_bytes (length cols) + 4 * length cols
@@ -25,6 +26,7 @@ chosen : {X : Type 0} (b : Bool) (x y : X) → cond b (Some x) None ≡ Some y �
 chosen true x y e = (refl, same_Some x y e)
 chosen false x y e = absurd (none-some y e)
 
+-- what was read as a row
 pub row_is : (cols : List Column) (bytes : List ℕ) (row : List Value) → row_of cols bytes ≡ Some row → IsRow cols bytes row
 unfolding row_of
 row_is cols bytes row e =
@@ -49,9 +51,11 @@ get_or-ints_in (suc n) bytes zero lt = refl
 get_or-ints_in (suc n) bytes (suc i) lt =
     get_or-ints_in n (drop 4 bytes) i (omega arith) ∙ ap (λ (bs : List ℕ). Int (int_in bs)) (drop-drop (4 * i) 4 bytes ∙ ap (λ (k : ℕ). drop k bytes) (let e : 4 + 4 * i ≡ 4 * suc i = omega arith in e))
 
+-- a row has a value for each column
 pub row_length : (cols : List Column) (bytes : List ℕ) (row : List Value) → row_of cols bytes ≡ Some row → length row ≡ length cols
 row_length cols bytes row e = let r = row_is cols bytes row e in ap length r.is ∙ length-ints_in (length cols) (drop (null_bytes (length cols)) bytes)
 
+-- its values are INTs
 pub row_ints : (cols : List Column) (bytes : List ℕ) (row : List Value) → row_of cols bytes ≡ Some row → list_all is_int_value row ≡ true
 row_ints cols bytes row e = let r = row_is cols bytes row e in ap (list_all is_int_value) r.is ∙ ints-ints_in (length cols) (drop (null_bytes (length cols)) bytes)
 
@@ -94,6 +98,7 @@ zeros_only : (n : ℕ) → list_all (λ (b : ℕ). b == 0) (replicate n 0) ≡ t
 zeros_only zero = refl
 zeros_only (suc n) = zeros_only n
 
+-- what was written is read again
 pub row_of-row_bytes : (cols : List Column) (row : List Value) → list_all is_int cols ≡ true → list_all is_int_value row ≡ true → length row ≡ length cols → FitInts row → row_of cols (row_bytes row) ≡ Some row
 unfolding row_of row_bytes
 row_of-row_bytes cols row ints values long fits =

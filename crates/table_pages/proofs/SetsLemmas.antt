@@ -1,13 +1,12 @@
 -- Rows after the SETs of an UPDATE.
-use Rattle.std.proofs.Common.{◌≡◌, ◌≢◌, ℕ, suc, ◌+◌, ◌*◌, ◌/◌, ◌<◌, ◌≤◌, Bool, true, false, cond, List, [], ◌∷◌, ◌++◌, length, get_or, drop, append_assoc, refl, ap, sym, ◌∙◌, arith}
-use Rattle.std.specs.Prelude.{Option, Some}
+use Rattle.std.proofs.Common.{◌≡◌, ◌≢◌, ℕ, ◌+◌, ◌*◌, ◌/◌, ◌<◌, ◌≤◌, Bool, true, false, cond, List, [], ◌∷◌, ◌++◌, length, get_or, drop, append_assoc, refl, ap, sym, ◌∙◌, arith}
+use Rattle.std.specs.Prelude.{Some}
 use Rattle.std.specs.List.{list_all, list_any}
 use Rattle.std.specs.Str.{bytes_eq}
 use Rattle.std.proofs.lemmas.Bool.{and_parts}
 use Rattle.std.proofs.lemmas.List.{append-nil, drop_more, drop_all}
 use Rattle.page_base.specs.declared.column.Column.{Column}
 use Rattle.page_base.specs.declared.value.Value.{Value}
-use Rattle.page_base.specs.declared.value.Value.TheVariants.{Null, Int, Big, Text}
 use Rattle.plain_model.specs.declared.expr.Expr.{Expr}
 use Rattle.plain_model.specs.declared.expr.Expr as code
 use Rattle.plain_model.specs.declared.stmt.SetItem.{SetItem}
@@ -20,9 +19,10 @@ use Rattle.table_pages.specs.Fitting.{FitInts}
 use Rattle.table_pages.specs.Layout.{row_item}
 use Rattle.table_pages.proofs.MappedLemmas.{item_map}
 use Rattle.table_pages.proofs.KeyLemmas.{key_of-with_sets}
-use Rattle.table_pages.proofs.RowLemmas.{IsRow, row_is, row_length, row_ints, length-row_bytes, row_of-row_bytes}
+use Rattle.table_pages.proofs.RowLemmas.{row_is, row_length, row_ints, length-row_bytes, row_of-row_bytes}
 use Rattle.table_pages.proofs.PageLemmas.{row_has, row_skip}
 
+-- all values that are set are numbers that an INT column takes
 abbrev pub are_small : List SetItem → Bool
 are_small sets = list_all (λ s. is_small_number s.to) sets
 
@@ -31,6 +31,7 @@ pub literal-int : (e : Expr) → is_small_number e ≡ true → is_int_value (li
 literal-int (code.Number n) h = refl
 literal-int _ h = absurd (let wrong : false ≡ true = h in cc)
 
+-- a column keeps an INT
 pub set_value-int : (sets : List SetItem) (c : Column) (v : Value) → are_small sets ≡ true → is_int_value v ≡ true → is_int_value (set_value sets c v) ≡ true
 set_value-int [] c v small h = h
 set_value-int (s ∷ sets) c v small h =
@@ -50,6 +51,7 @@ both_true : (a b : Bool) → a ≡ true → b ≡ true → cond a b false ≡ tr
 both_true true b p q = q
 both_true false b p q = p
 
+-- a row of INTs stays one
 pub ints-with_sets : (sets : List SetItem) (cols : List Column) (row : List Value) → are_small sets ≡ true → list_all is_int_value row ≡ true → list_all is_int_value (with_sets sets cols row) ≡ true
 ints-with_sets sets [] row small h = h
 ints-with_sets sets (c ∷ cols) [] small h = h
@@ -77,6 +79,7 @@ module _ (sets : List SetItem) (cols : List Column) where
         null_part : ℕ → ℕ
         null_part n = (n + 7) / 8 + 4 * n
 
+    -- nor does a slot become empty
     pub some_bytes : before ≢ [] → row_bytes (with_sets sets cols row) ≢ []
     some_bytes full f = full (no_length before (sym same_length ∙ ap length f))
       where
@@ -84,6 +87,7 @@ module _ (sets : List SetItem) (cols : List Column) where
         no_length [] e = refl
         no_length (x ∷ xs) e = absurd (omega arith)
 
+    -- the new bytes are the new row
     pub read_again : FitInts (with_sets sets cols row) → row_of cols (row_bytes (with_sets sets cols row)) ≡ Some (with_sets sets cols row)
     read_again fits =
         row_of-row_bytes cols (with_sets sets cols row) (row_is cols before row e).ints (ints-with_sets sets cols row small (row_ints cols before row e))
@@ -129,6 +133,7 @@ with_sets-more sets cols row new next all i c v in_cols in_row c_is v_is so_far 
     ap (λ (xs : List Value). xs ++ rest) more ∙ append_assoc new (set_value sets c v ∷ []) rest
     ∙ ap (λ (xs : List Value). new ++ xs) (sym (λ t. with_sets sets (cols_are t) (row_is t))) ∙ so_far
 
+-- all values of a row
 pub with_sets-end : (sets : List SetItem) (cols : List Column) (row new all : List Value) (i : ℕ) → length cols ≤ i → length row ≤ i → new ++ with_sets sets (drop i cols) (drop i row) ≡ all → new ≡ all
 with_sets-end sets cols row new all i past_cols past_row so_far =
     sym (append-nil new) ∙ ap (λ (xs : List Value). new ++ xs) (sym (λ t. with_sets sets (drop_all i cols past_cols t) (drop_all i row past_row t))) ∙ so_far

@@ -12,9 +12,11 @@ use Rattle.page_base.proofs.MapLemmas.{entries-from_entries, from_entries-insert
 use Rattle.plain_model.specs.Tables.{Table, with_row, key_of, rows_of}
 use Rattle.plain_model.specs.Meaning.{shown, shown_rows}
 
+-- rows beside their keys
 abbrev pub Entries : Type 0
 Entries = List (List Value × List Value)
 
+-- the table that they are
 abbrev pub stored : List Column → Entries → Table
 stored cols es = record { cols = cols; rows = finite.from_entries es }
 

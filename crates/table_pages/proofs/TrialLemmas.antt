@@ -1,24 +1,24 @@
 -- What keeps the pages of the tests ready.
-use Rattle.std.proofs.Common.{◌≡◌, ◌≢◌, ◌⊎◌, ℕ, zero, suc, ◌+◌, ◌-◌, ◌^◌, ◌<◌, ◌≤◌, Bool, true, false, inl, inr, List, [], ◌∷◌, length, ap, sym, ◌∙◌, subst, refl, arith, rules}
+use Rattle.std.proofs.Common.{◌≡◌, ◌≢◌, ◌⊎◌, ℕ, ◌-◌, ◌^◌, ◌<◌, inl, inr, List, [], ◌∷◌, ap, sym, ◌∙◌, subst, arith}
 use Rattle.std.specs.Prelude.{Result, Ok, Err, OnOk, OnErr, IfOk, slice_index}
 use Rattle.std.proofs.lemmas.Bool.{cases_eq}
 use Rattle.page_base.specs.declared.column.Column.{Column}
 use Rattle.page_base.specs.declared.numbers.PageId.{PageId}
 use Rattle.page_base.specs.Pages.{blank, set_at}
-use Rattle.page_base.specs.Slots.{Slots, with_slot}
+use Rattle.page_base.specs.Slots.{with_slot}
 use Rattle.page_fmt.specs.Content.{IsPage}
 use Rattle.page_fmt.proofs.CallerLemmas.{IsPage-blank}
 use Rattle.snap_pages.specs.Catalog.{Catalog, empty}
 use Rattle.snap_pages.specs.Shown.{Shown, img, counts, catalog}
 use Rattle.snap_pages.specs.Slots.{slots_of}
 use Rattle.table_pages.specs.declared.edit.Edit.{Edit}
-use Rattle.table_pages.specs.Headers.{header}
 use Rattle.table_pages.specs.Layout.{place, IsPacked}
 use Rattle.table_pages.specs.Carried.{data_pages, IsHeaderEdit}
 use Rattle.table_pages.specs.Trial.{IsReady, IsFirstFront}
 use Rattle.table_pages.proofs.PlanLemmas.{front_packed, row_packed, header_full, not_nil}
 use Rattle.table_pages.proofs.CallerLemmas.{blank_slots, blank_packed, pages_on}
 
+-- pages of zeros are ready
 pub ready_new : (v : Shown) (count next_cut : ℕ) → img v ≡ (λ p. blank) → counts v ≡ count ∷ [] → catalog v ≡ empty next_cut → count < 2 ^ 32 → IsReady v
 ready_new v count next_cut images sizes cat small =
     let pages : data_pages v ≡ count - 1 = ap (λ (cs : List ℕ). slice_index cs 0 - 1) sizes in
@@ -29,6 +29,7 @@ ready_new v count next_cut images sizes cat small =
       alone = ap (λ (c : Catalog). c.snaps) cat;
     }
 
+-- new pages are ready
 pub ready_if : {E : Type 0} (r : Result Shown E) (count next_cut : ℕ) → IfOk r (λ v. img v ≡ (λ p. blank)) → IfOk r (λ v. counts v ≡ count ∷ []) → IfOk r (λ v. catalog v ≡ empty next_cut) → count < 2 ^ 32 → IfOk r IsReady
 ready_if (Ok v) count next_cut images sizes cat small = ready_new v count next_cut images sizes cat small
 ready_if (Err e) count next_cut images sizes cat small = tt
@@ -53,6 +54,7 @@ ready_after v new e ready front slots page images same cat =
         (subst (λ (s : ℕ). IsPacked (data_pages v) (with_slot (slots_of (img v)) (place f.at) s e.bytes)) (sym at) (front_packed v f.at e.bytes ready.packed f.first f.some))
     still (inr ne) = row_packed (data_pages v) (slots_of (img v)) e.page e.slot e.bytes (omega arith) ready.packed
 
+-- after an edit, done or refused, the pages are ready
 pub ready_on : {T E : Type 0} (r : Result T E) (v new : Shown) (e : Edit) (x : List ℕ) → x ≡ e.bytes → IsReady v → (e.slot ≡ 0 → IsFirstFront v e) → OnOk r (slots_of (img new) ≡ with_slot (slots_of (img v)) e.page e.slot x) → OnErr r (new ≡ v)
     → IsPage (img new e.page) → img new ≡ set_at (img v) e.page (img new e.page) → counts new ≡ counts v → catalog new ≡ catalog v → IsReady new
 ready_on (Ok u) v new e x x_is ready front slots same page images sizes cat = ready_after v new e ready front (slots ∙ ap (with_slot (slots_of (img v)) e.page e.slot) x_is) page images sizes cat

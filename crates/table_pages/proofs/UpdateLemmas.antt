@@ -1,48 +1,25 @@
 -- What the edits of an UPDATE carry the pages to.
-use Rattle.std.proofs.Common.{◌≡◌, ◌≢◌, ℕ, zero, suc, ◌+◌, ◌-◌, ◌<◌, ◌≤◌, Bool, true, false, inl, inr, List, [], ◌∷◌, ◌++◌, length, map, All, refl, ap, sym, ◌∙◌, subst, arith}
-use Rattle.std.specs.Prelude.{Option, Some, None}
-use Rattle.std.specs.Option.{option_map}
+use Rattle.std.proofs.Common.{◌≡◌, ℕ, ◌+◌, ◌<◌, true, false, List, [], ◌∷◌, map, refl, ap, sym, ◌∙◌, arith}
+use Rattle.std.specs.Prelude.{Option, Some}
 use Rattle.std.specs.FinMap as finite
-use Rattle.std.specs.List.{list_all, list_any, AllByRecursion}
+use Rattle.std.specs.List.{list_any}
 use Rattle.std.specs.Cmp.Lexicographic.{nat_list_cmp_total}
-use Rattle.std.proofs.lemmas.Bool.{cases_lt, cases_eq}
-use Rattle.std.proofs.lemmas.List.Elements.{All-from_recursion}
-use Rattle.page_base.specs.declared.column.Column.{Column}
-use Rattle.page_base.specs.declared.numbers.PageId.{PageId}
 use Rattle.page_base.specs.declared.value.Value.{Value}
-use Rattle.page_base.specs.Pages.{set_at}
-use Rattle.page_base.specs.Slots.{Slots, with_slot}
 use Rattle.page_base.proofs.Ordered.{key_cmp_total}
 use Rattle.page_base.proofs.MapLemmas.{insert-same}
-use Rattle.page_base.proofs.PagesLemmas.{is_page-same}
-use Rattle.page_base.proofs.SlotsLemmas.{with_slot-same, with_slot-slot, with_slot-page}
-use Rattle.page_fmt.specs.Spelling.{used}
-use Rattle.page_fmt.specs.Content.{content, IsPage}
-use Rattle.page_fmt.specs.Edits.{edited, slot_at}
 use Rattle.plain_model.specs.declared.stmt.SetItem.{SetItem}
-use Rattle.plain_model.specs.Tables.{Rows, Table, Tables, Put, changed, applied, apply, with_row, key_of, rows_of}
+use Rattle.plain_model.specs.Tables.{Rows, Table, Tables, Put, changed, apply, with_row, key_of}
 use Rattle.plain_model.specs.Meaning.{is_key_column, with_sets, updated_rows}
-use Rattle.plain_model.specs.Next.{is_int}
-use Rattle.snap_pages.specs.Shown.{Shown, img, counts, IsThere}
-use Rattle.snap_pages.specs.Slots.{slots_of}
-use Rattle.table_pages.specs.declared.edit.Edit.{Edit}
-use Rattle.table_pages.specs.Gathered.{Item, Skip, Bad, Has, collect}
-use Rattle.table_pages.specs.Rows.{row_bytes, row_of}
-use Rattle.table_pages.specs.Fitting.{FitInts}
+use Rattle.table_pages.specs.Gathered.{Item, Has}
 use Rattle.table_pages.specs.Headers.{header_of}
-use Rattle.table_pages.specs.Layout.{row_item, row_at, rows_in, table_item, place, table_at, tables_of, IsPacked}
-use Rattle.table_pages.specs.Edits.{done, HasRoom, FitIn, Change}
-use Rattle.table_pages.specs.Plans.{edit_of, Adds, Stays, Changes, Plans}
-use Rattle.table_pages.specs.Carried.{data_pages, decoded, Holds, Carries}
-use Rattle.table_pages.proofs.CollectLemmas.{collect_set, insert_twice, get_same}
+use Rattle.table_pages.specs.Layout.{row_at, rows_in, table_item}
+use Rattle.table_pages.proofs.CollectLemmas.{insert_twice, get_same}
 use Rattle.table_pages.proofs.OrderLemmas.{names_exact, keys_exact}
-use Rattle.table_pages.proofs.MappedLemmas.{item_map, Mapped, collect_mapped, collect_keys, over, over_all}
+use Rattle.table_pages.proofs.MappedLemmas.{collect_mapped, collect_keys, over, over_all}
 use Rattle.table_pages.proofs.KeyLemmas.{key_of-with_sets}
-use Rattle.table_pages.proofs.SetsLemmas.{are_small, IsUpdated, Empty, Row, same_length, some_bytes, updated_item}
-use Rattle.table_pages.proofs.DoneLemmas.{Contents, after, slots_in, slots_after, done_more, after_more, fit_more, change_more, each_more, set_same, slot_short}
-use Rattle.table_pages.proofs.PageLemmas.{table_is, table_of, has_row, page_slot, few_slots, slot_past}
-use Rattle.table_pages.proofs.PlanLemmas.{places_apart}
-use Rattle.table_pages.proofs.CallerLemmas.{found_there}
+use Rattle.table_pages.proofs.SetsLemmas.{are_small, IsUpdated, updated_item}
+use Rattle.table_pages.proofs.DoneLemmas.{after}
+use Rattle.table_pages.proofs.PageLemmas.{table_is, table_of, has_row}
 
 -- ALL ROWS PUT AGAIN
 
@@ -51,6 +28,7 @@ abbrev pub puts_into : List (List Value) → Table → Table
 puts_into [] t = t
 puts_into (r ∷ rs) t = puts_into rs (with_row r t)
 
+-- rows put one after the other into one table
 pub apply_puts : (name : List ℕ) (rows : List (List Value)) (tables : Tables) (t : Table) → finite.get tables name ≡ Some t → apply (map (Put name) rows) tables ≡ finite.insert tables name (puts_into rows t)
 apply_puts name [] tables t e = sym (insert-same nat_list_cmp_total names_exact tables name t e)
 apply_puts name (r ∷ rs) tables t e =
@@ -75,6 +53,7 @@ module _ (sets : List SetItem) (small : are_small sets ≡ true) (name : List �
     pub front : after 0 ≡ before 0
     pub each : (j : ℕ) → 0 < j → j < 4048 → IsUpdated sets t.cols (before j) (after j)
 
+  -- the table of the page after all edits
   pub item_after : (before after : ℕ → List ℕ) → table_item before ≡ Has name t → IsPageAfter before after → table_item after ≡ Has name (puts_into (updated_rows sets t) t)
   unfolding rows_in
   item_after before after holds updated =

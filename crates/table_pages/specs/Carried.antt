@@ -1,5 +1,5 @@
 -- The tables of the source's pages, and plans of edits that carry them to others.
-use Rattle.std.specs.Prelude.{◌≡◌, ◌≢◌, ◌⊎◌, ℕ, ◌-◌, ◌<◌, ◌≤◌, List, [], length, All, Option, Some, slice_index}
+use Rattle.std.specs.Prelude.{◌≡◌, ◌≢◌, ◌⊎◌, ℕ, ◌-◌, ◌<◌, List, [], length, All, Option, Some, slice_index}
 use Rattle.page_fmt.specs.Content.{content}
 use Rattle.page_fmt.specs.Edits.{edited, slot_at}
 use Rattle.page_fmt.specs.Spelling.{used}

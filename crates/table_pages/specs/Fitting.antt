@@ -11,5 +11,6 @@ abbrev pub FitsInt : Value → Type 0
 FitsInt (Int n) = FitsSigned w32 n
 FitsInt _ = Unit {0}
 
+-- so it is of each value
 abbrev pub FitInts : List Value → Type 0
 FitInts row = AllByRecursion FitsInt row

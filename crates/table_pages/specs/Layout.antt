@@ -60,6 +60,7 @@ table_item page = with_front (page 0) page
 abbrev pub place : ℕ → PageId
 place i = record { file = 0; page = i + 1 }
 
+-- the table of page i
 abbrev pub table_at : Slots → ℕ → Item (List ℕ) Table
 table_at slots i = table_item (slots (place i))
 

@@ -1,5 +1,5 @@
 -- What the tests keep of their pages.
-use Rattle.std.specs.Prelude.{◌≡◌, ◌≢◌, ◌<◌, ℕ, List, []}
+use Rattle.std.specs.Prelude.{◌≡◌, ◌≢◌, ◌<◌, ℕ, []}
 use Rattle.page_base.specs.declared.numbers.PageId.{PageId}
 use Rattle.page_fmt.specs.Content.{IsPage}
 use Rattle.snap_pages.specs.Shown.{Shown, img, catalog}

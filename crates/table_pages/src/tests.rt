@@ -4,6 +4,7 @@ ghost use Rattle.std.specs.Prelude.{◌≡◌, ◌<◌, ◌≤◌, ◌∷◌, []
 ghost use Rattle.std.specs.List.{list_all};
 ghost use Rattle.plain_model.specs.Sound.{is_definition};
 ghost use Rattle.plain_model.specs.Next.{is_small_number};
+ghost use Rattle.page_fmt.specs.Content.{IsPage};
 ghost use Rattle.snap_pages.specs.Shown.{counts};
 ghost use Rattle.table_pages.specs.Carried.{data_pages};
 ghost use Rattle.table_pages.specs.Trial.{IsReady, IsFirstFront};
@@ -106,20 +107,23 @@ fn two_columns(alloc: Global) -> Result<Columns, Fail>
     Ok(cols)
 }
 
-#[test]
-fn a_page_is_read(rt: HostRuntime) -> Result<(), Fail> {
-    let alloc = rt.alloc();
+// A page of the table `shop`: the row of key 2 in slot 1, that of key 1 in slot 3.
+fn shop_page(alloc: Global) -> Result<Image, Fail>
+    ensures { IfOk result IsPage }
+{
     let mut image = Image::blank(alloc)?;
-    assert_eq!(rt; check(&image), Ok(()));
-    assert!(rt; is_blank(&image));
-
     let front = b"\x04shop\x02\x02id\x01\0\0\0\0\0\0\0\x02\0\0\0\x01v\x01\0\0\0\0\0\0\0\0\0\0\0";
-    assert_eq!(rt; put_slot(&mut image, 0, front), Ok(()));
-    assert_eq!(rt; put_slot(&mut image, 1, b"\0\x02\0\0\0\x14\0\0\0"), Ok(()));
-    assert_eq!(rt;
-        put_slot(&mut image, 3, b"\0\x01\0\0\0\xf6\xff\xff\xff"),
-        Ok(())
-    );
+    check(&image)?;
+    put_slot(&mut image, 0, front)?;
+    put_slot(&mut image, 1, b"\0\x02\0\0\0\x14\0\0\0")?;
+    put_slot(&mut image, 3, b"\0\x01\0\0\0\xf6\xff\xff\xff")?;
+    Ok(image)
+}
+
+#[test]
+fn pages_are_named(rt: HostRuntime) -> Result<(), Fail> {
+    assert!(rt; is_blank(&Image::blank(rt.alloc())?));
+    let image = shop_page(rt.alloc())?;
     assert!(rt; !is_blank(&image));
     for (other, same) in [
         (b"shop".as_slice(), true),
@@ -128,19 +132,33 @@ fn a_page_is_read(rt: HostRuntime) -> Result<(), Fail> {
     ] {
         assert_eq!(rt; is_named(&image, &name(other)?), same);
     }
+    Ok(())
+}
 
-    let cols = columns(alloc, &image)?;
-    assert_eq!(rt; cols, two_columns(alloc)?);
-    let table = read_table(alloc, &image)?;
-    assert_eq!(rt; table.cols(), cols.as_slice());
-    assert!(rt; !table.is_empty());
-    let rows = table.shown_rows(alloc)?;
+#[test]
+fn tables_are_read(rt: HostRuntime) -> Result<(), Fail> {
+    let image = shop_page(rt.alloc())?;
+    assert_eq!(rt; columns(rt.alloc(), &image)?, two_columns(rt.alloc())?);
+    let table = read_table(rt.alloc(), &image)?;
+    assert!(rt; table.cols().len() == 2 && !table.is_empty());
+    assert!(rt; table.has_key(&ints(rt.alloc(), &[2])?));
+    assert!(rt; !table.has_key(&ints(rt.alloc(), &[20])?));
+    let rows = table.shown_rows(rt.alloc())?;
     assert_eq!(rt; rows.len(), 2);
-    assert_eq!(rt; rows.at(0), &bigs(alloc, &[1, -10])?);
-    assert_eq!(rt; rows.at(1), &bigs(alloc, &[2, 20])?);
-    assert!(rt; table.has_key(&ints(alloc, &[2])?) && !table.has_key(&ints(alloc, &[20])?));
+    assert_eq!(rt; rows.at(0), &bigs(rt.alloc(), &[1, -10])?);
+    assert_eq!(rt; rows.at(1), &bigs(rt.alloc(), &[2, 20])?);
+    Ok(())
+}
+
+#[test]
+fn keys_are_found(rt: HostRuntime) -> Result<(), Fail> {
+    let image = shop_page(rt.alloc())?;
+    let cols = columns(rt.alloc(), &image)?;
     for (key, there) in [(1, true), (2, true), (3, false), (-10, false)] {
-        assert_eq!(rt; has_key(&image, &cols, &ints(alloc, &[key, 5])?), there);
+        assert_eq!(rt;
+            has_key(&image, &cols, &ints(rt.alloc(), &[key, 5])?),
+            there
+        );
     }
     Ok(())
 }
@@ -215,16 +233,39 @@ fn tables_fill_the_pages(rt: HostRuntime) -> Result<(), Fail> {
     Ok(())
 }
 
+// Inserts so many rows, with 6 and 7 in turn; whether all of them went in.
+fn insert_rows(alloc: Global, pages: &mut Pages, count: i32) -> Result<bool, NoMemory>
+    requires ready { IsReady pages.old }
+    requires there { 0 < data_pages pages.old }
+    ensures ready { IsReady pages.new }
+    ensures counts { counts pages.new ≡ counts pages.old }
+{
+    for k in 0..count {
+        if !insert(alloc, pages, 0, &ints(alloc, &[k, 6 + k % 2])?)? {
+            return Ok(false);
+        }
+    }
+    Ok(true)
+}
+
+// Two pages, the second with a table of so many rows; whether all of them went in.
+fn rows_on_a_page(alloc: Global, count: i32) -> Result<(Pages, bool), Fail>
+    ensures ready { IfOk result (λ made. IsReady made.0) }
+    ensures counts { IfOk result (λ made. counts made.0 ≡ 2 ∷ []) }
+{
+    let mut pages = new_pages(alloc, 2)?;
+    let made = create(alloc, &mut pages, &name(b"t")?, &two_columns(alloc)?)?;
+    let all = insert_rows(alloc, &mut pages, count)?;
+    Ok((pages, made && all))
+}
+
 #[test]
 fn rows_fill_a_page(rt: HostRuntime) -> Result<(), Fail> {
-    let alloc = rt.alloc();
-    let mut pages = new_pages(alloc, 2)?;
-    assert!(rt; create(alloc, &mut pages, &name(b"t")?, &two_columns(alloc)?)?);
-    // the header takes 32 bytes, each row 9, and each slot 2 more for its offset: 96 + 34 + 732 * 11 is 8182
-    for k in 0..732 {
-        assert!(rt; insert(alloc, &mut pages, 0, &ints(alloc, &[k, 7])?)?);
-    }
-    assert!(rt; !insert(alloc, &mut pages, 0, &ints(alloc, &[732, 7])?)?);
+    // 32 bytes for the header, 9 for each of the rows, and 2 for the offset of each slot: 96 + 34 + 732 * 11 is 8182
+    let (mut pages, all) = rows_on_a_page(rt.alloc(), 732)?;
+    assert!(rt; all);
+    let row = ints(rt.alloc(), &[732, 7])?;
+    assert!(rt; !insert(rt.alloc(), &mut pages, 0, &row)?);
     Ok(())
 }
 
@@ -242,35 +283,51 @@ fn set_sevens(alloc: Global) -> Result<SetList, Fail>
 
 #[test]
 fn only_rows_that_change_are_edited(rt: HostRuntime) -> Result<(), Fail> {
-    let alloc = rt.alloc();
-    let cols = two_columns(alloc)?;
-    let mut pages = new_pages(alloc, 2)?;
-    assert!(rt; create(alloc, &mut pages, &name(b"t")?, &cols)?);
-    for k in 0..8 {
-        assert!(rt; insert(alloc, &mut pages, 0, &ints(alloc, &[k, 6 + k % 2])?)?);
-    }
-    let edits = plan_update(alloc, &pages, 0, &cols, &set_sevens(alloc)?)?;
+    let (pages, all) = rows_on_a_page(rt.alloc(), 8)?;
+    assert!(rt; all);
+    let cols = two_columns(rt.alloc())?;
+    let edits = plan_update(rt.alloc(), &pages, 0, &cols, &set_sevens(rt.alloc())?)?;
     assert_eq!(rt; edits.len(), 4);
     for (edit, k) in edits.as_slice().iter().zip([0u8, 2, 4, 6]) {
-        assert_eq!(rt; edit.page, place(0));
+        assert_eq!(rt; edit.page, PageId { file: 0, page: 1 });
         assert_eq!(rt; edit.slot, u16::from(k) + 1);
         assert_eq!(rt;
             edit.bytes.as_slice(),
             [0, k, 0, 0, 0, 7, 0, 0, 0].as_slice()
         );
     }
-    for edit in edits.as_slice() {
-        assert!(rt; edit.slot > 0);
-        assert!(rt; carry(&mut pages, edit));
+    Ok(())
+}
+
+// Does all edits; whether each was done.
+fn carry_all(pages: &mut Pages, edits: &[Edit]) -> bool
+    requires ready { IsReady pages.old }
+    ensures ready { IsReady pages.new }
+    ensures counts { counts pages.new ≡ counts pages.old }
+{
+    for edit in edits {
+        if edit.slot == 0 {
+            return false;
+        }
+        if !carry(pages, edit) {
+            return false;
+        }
     }
-    assert_eq!(rt;
-        plan_update(alloc, &pages, 0, &cols, &set_sevens(alloc)?)?.len(),
-        0
-    );
-    let rows = read_table(alloc, pages.image(place(0)))?.shown_rows(alloc)?;
+    true
+}
+
+#[test]
+fn updated_rows_are_read(rt: HostRuntime) -> Result<(), Fail> {
+    let (mut pages, all) = rows_on_a_page(rt.alloc(), 8)?;
+    let cols = two_columns(rt.alloc())?;
+    let sets = set_sevens(rt.alloc())?;
+    let edits = plan_update(rt.alloc(), &pages, 0, &cols, &sets)?;
+    assert!(rt; all && carry_all(&mut pages, edits.as_slice()));
+    assert!(rt; plan_update(rt.alloc(), &pages, 0, &cols, &sets)?.is_empty());
+    let rows = read_table(rt.alloc(), pages.image(place(0)))?.shown_rows(rt.alloc())?;
     assert_eq!(rt; rows.len(), 8);
     for (row, k) in rows.as_slice().iter().zip(0i64..8) {
-        assert_eq!(rt; row, &bigs(alloc, &[k, 7])?);
+        assert_eq!(rt; row, &bigs(rt.alloc(), &[k, 7])?);
     }
     Ok(())
 }

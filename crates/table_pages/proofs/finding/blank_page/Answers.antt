@@ -1,4 +1,4 @@
-use Rattle.std.proofs.Common.{◌<◌, arith}
+use Rattle.std.proofs.Common.{arith}
 use borrow.Author.Count.{below_more}
 use Rattle.table_pages.proofs.FoundLemmas.{is_blank, isnt_blank}
 use Rattle.table_pages.proofs.finding.blank_page.Goals as goal

@@ -1,4 +1,4 @@
-use Rattle.std.proofs.Common.{◌<◌, true, sym, ◌∙◌, arith}
+use Rattle.std.proofs.Common.{true, arith}
 use Rattle.snap_pages.specs.Shown.{img}
 use Rattle.snap_pages.specs.Slots.{slots_of}
 use Rattle.table_pages.specs.Carried.{data_pages}

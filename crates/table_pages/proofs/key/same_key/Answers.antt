@@ -1,6 +1,5 @@
-use Rattle.std.proofs.Common.{◌≡◌, ◌<◌, ◌+◌, ℕ, List, length, true, false, ap, sym, ◌∙◌, subst, refl, arith}
-use Rattle.page_base.specs.declared.value.Value.{Value}
-use Rattle.plain_model.specs.Tables.{key_of, key_cell}
+use Rattle.std.proofs.Common.{◌≡◌, length, true, false, ap, sym, ◌∙◌, refl, arith}
+use Rattle.plain_model.specs.Tables.{key_of}
 use Rattle.table_pages.specs.Rows.{ints_in}
 use borrow.Author.Count.{below_more}
 use Rattle.table_pages.proofs.KeyLemmas.{key_of-same, key_cell-same}

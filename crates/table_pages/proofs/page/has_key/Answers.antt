@@ -1,4 +1,4 @@
-use Rattle.std.proofs.Common.{◌<◌, ◌∙◌, length, arith}
+use Rattle.std.proofs.Common.{◌∙◌, arith}
 use Rattle.table_pages.proofs.PageLemmas.{few_slots}
 use Rattle.table_pages.proofs.HeldLemmas.{lacks_more, key_there, key_absent}
 use Rattle.table_pages.proofs.page.has_key.Goals as goal

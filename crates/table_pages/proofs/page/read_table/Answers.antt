@@ -1,6 +1,4 @@
-use Rattle.std.proofs.Common.{◌<◌, length, subst, sym, arith}
-use Rattle.page_fmt.specs.Content.{content}
-use Rattle.plain_model.specs.Tables.{Table}
+use Rattle.std.proofs.Common.{subst, sym, arith}
 use Rattle.table_pages.proofs.PageLemmas.{few_slots}
 use Rattle.table_pages.proofs.HeldLemmas.{IsRead, read_none, read_more, read_all}
 use Rattle.table_pages.proofs.page.read_table.Goals as goal

@@ -1,4 +1,4 @@
-use Rattle.std.proofs.Common.{◌<◌, arith}
+use Rattle.std.proofs.Common.{arith}
 use Rattle.table_pages.proofs.RoomLemmas.{full_more, empty_here, empty_behind}
 use Rattle.table_pages.proofs.planning.empty_slot.Goals as goal
 

@@ -1,5 +1,4 @@
 use Rattle.std.proofs.Common.{◌≡◌, ◌*◌, ◌-◌, ap, sym, ◌∙◌, arith, length, take, drop, List, ℕ, length-drop, rules}
-use Rattle.std.specs.Prelude.{ℤ}
 use Rattle.std.proofs.lemmas.List.{take_all}
 use Rattle.page_base.specs.declared.value.Value.TheVariants.{Int}
 use Rattle.std.specs.Int.{w32}

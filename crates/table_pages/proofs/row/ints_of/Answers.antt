@@ -1,5 +1,4 @@
-use Rattle.std.proofs.Common.{◌≡◌, min, length, ◌∙◌, ap, ℕ}
-use Rattle.table_pages.specs.Rows.{null_bytes}
+use Rattle.std.proofs.Common.{min, length, ◌∙◌, ap, ℕ}
 use Rattle.table_pages.proofs.RowLemmas.{ints_behind}
 use Rattle.table_pages.proofs.row.ints_of.Goals as goal
 

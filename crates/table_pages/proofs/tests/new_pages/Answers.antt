@@ -1,4 +1,4 @@
-use Rattle.std.proofs.Common.{◌<◌, ◌^◌, arith}
+use Rattle.std.proofs.Common.{arith}
 use Rattle.table_pages.proofs.TrialLemmas.{ready_if}
 use Rattle.table_pages.proofs.tests.new_pages.Goals as goal
 

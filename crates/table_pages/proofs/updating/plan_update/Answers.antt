@@ -1,4 +1,4 @@
-use Rattle.std.proofs.Common.{◌≡◌, ◌<◌, ◌≤◌, ◌∙◌, [], List, ℕ, length, ap, sym, subst, arith}
+use Rattle.std.proofs.Common.{◌≡◌, ◌∙◌, List, ℕ, length, ap, sym, subst, arith}
 use Rattle.page_base.specs.declared.column.Column.{Column}
 use Rattle.page_fmt.specs.Content.{content}
 use Rattle.page_fmt.specs.Edits.{slot_at}

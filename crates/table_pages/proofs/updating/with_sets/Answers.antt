@@ -1,4 +1,4 @@
-use Rattle.std.proofs.Common.{◌<◌, ◌∙◌, ◌++◌, ◌∷◌, [], List, length, ap, arith}
+use Rattle.std.proofs.Common.{◌∙◌, ◌++◌, ◌∷◌, [], List, ap, arith}
 use Rattle.page_base.specs.declared.value.Value.{Value}
 use Rattle.plain_model.specs.Meaning.{with_sets}
 use Rattle.table_pages.proofs.SetsLemmas.{with_sets-more, with_sets-end}
