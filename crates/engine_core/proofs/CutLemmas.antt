@@ -1,12 +1,11 @@
 -- What comes of a CREATE DATABASE, by the plain machine.
-use Rattle.std.proofs.Common.{◌≡◌, ◌≢◌, ◌+◌, ◌-◌, ◌<◌, ◌≤◌, ◌⊎◌, inl, inr, ℕ, Bool, true, false, ◌&&◌, ◌||◌, not, nat_le, cond, IsTrue, List, [], ◌∷◌, length, map, get_or, refl, ap, sym, ◌∙◌, subst, ◌^◌}
-use Rattle.std.specs.Prelude.{Option, Some, None, slice_get}
+use Rattle.std.proofs.Common.{◌≡◌, ◌+◌, ◌-◌, ◌⊎◌, inl, inr, ℕ, Bool, true, false, ◌||◌, not, nat_le, cond, IsTrue, List, [], ◌∷◌, length, map, get_or, refl, ap, sym, ◌∙◌, subst, ◌^◌}
+use Rattle.std.specs.Prelude.{Some, None}
 use Rattle.std.specs.List.{list_any}
 use Rattle.std.specs.Str.{bytes_eq}
 use Rattle.std.specs.FinMap as finite
 use Rattle.std.proofs.lemmas.Bool.{cases_Bool}
 use Rattle.std.proofs.lemmas.List.{length-map}
-use Rattle.page_base.specs.declared.numbers.SnapNo.{SnapNo}
 use Rattle.plain_model.specs.declared.stmt.Stmt.{Stmt}
 use Rattle.plain_model.specs.declared.stmt.Stmt.TheVariants.{CreateSnap}
 use Rattle.plain_model.specs.declared.stmt.SnapFile.{SnapFile}
@@ -14,21 +13,20 @@ use Rattle.plain_model.specs.declared.reply.Message.{Message}
 use Rattle.plain_model.specs.declared.reply.Reply.{Reply}
 use Rattle.plain_model.specs.declared.reply.Reply.TheVariants.{Msg}
 use Rattle.plain_model.specs.Journal.{Opening}
-use Rattle.plain_model.specs.State as plain
-use Rattle.plain_model.specs.State.{Plain, Session, session, is_source, is_restoring, fresh_session}
+use Rattle.plain_model.specs.State.{Session, session, is_source, is_restoring, fresh_session}
 use Rattle.plain_model.specs.Meaning.{plain}
 use Rattle.plain_model.specs.Next.{Next, Replies, Cuts, unless, is_database, is_each_once, is_taken, is_full, logical_names, no_snap, no_room, next_snap, next_of}
 use Rattle.plain_model.specs.Next as next
-use Rattle.plain_model.specs.Free.{IsFree, IsMaking, NoMemoryToCut, FileFailed, NameTaken, is_doubtful}
-use Rattle.snap_pages.specs.Catalog.{IsCatalog, HasSnap, snap_at}
-use Rattle.snap_pages.specs.Shown.{Shown, catalog, count}
+use Rattle.plain_model.specs.Free.{IsMaking, NoMemoryToCut, FileFailed, NameTaken, is_doubtful}
+use Rattle.snap_pages.specs.Catalog.{IsCatalog}
+use Rattle.snap_pages.specs.Shown.{Shown, catalog}
 use Rattle.engine_core.specs.declared.database.Database.{Database}
 use Rattle.engine_core.specs.Databases.{Means, is_there, is_home}
 use Rattle.engine_core.specs.Deciding.{AreApart}
 use Rattle.engine_core.specs.Pushing.{plainly, snaps_of}
 use Rattle.engine_core.specs.Ready.{Allowed}
 use Rattle.engine_core.specs.Stepping.{idle, Around}
-use Rattle.engine_core.specs.Safe.{Run, Disk, Safe, state, seat_at, script_at, IsSeated}
+use Rattle.engine_core.specs.Safe.{Run, Disk, state, seat_at, IsSeated}
 use Rattle.engine_core.specs.Creating.{IsAsked, has_no_place, Reason, VolumeFailed, HasFile, HasNoPlace, HasNoMemory}
 use Rattle.engine_core.proofs.AtOnce.{there_is, home_is}
 use Rattle.engine_core.proofs.SeatLemmas.{around, session_is}
@@ -44,8 +42,8 @@ all_pass [] snap n h = refl
 all_pass (r ∷ rs) snap n h = elim (cases_Bool r.0) [
   | inl t ↦ absurd (let x : Replies (Msg r.1) ≡ Cuts snap = ap (λ b. cond b (Replies (Msg r.1)) (unless rs (Cuts snap))) (sym t) ∙ h in cc)
   | inr f ↦
-    let rest : unless rs (Cuts snap) ≡ Cuts snap = ap (λ b. cond b (Replies (Msg r.1)) (unless rs (Cuts snap))) (sym f) ∙ h in
-    ap (λ b. cond b (Replies (Msg r.1)) (unless rs n)) f ∙ all_pass rs snap n rest
+      let rest : unless rs (Cuts snap) ≡ Cuts snap = ap (λ b. cond b (Replies (Msg r.1)) (unless rs (Cuts snap))) (sym f) ∙ h in
+      ap (λ b. cond b (Replies (Msg r.1)) (unless rs n)) f ∙ all_pass rs snap n rest
 ]
 
 module _ (source file : List ℕ) (disk : Disk) (v : Shown) (snap : List ℕ) (files : List SnapFile) (of : List ℕ) (e : Run) (i : ℕ) (asked : IsAsked source file disk v (CreateSnap snap files of) e i) where

@@ -1,22 +1,20 @@
 -- A cut keeps what always holds of the engine.
-use Rattle.std.proofs.Common.{◌≡◌, ◌≢◌, ◌+◌, ◌-◌, ◌<◌, ◌≤◌, ◌⊎◌, inl, inr, ℕ, Bool, true, false, ◌&&◌, ◌||◌, not, nat_eq, cond, IsTrue, List, [], ◌∷◌, ◌++◌, length, map, get_or, refl, ap, sym, ◌∙◌, subst, arith, length-append, eq-eqb}
+use Rattle.std.proofs.Common.{◌≡◌, ◌≢◌, ◌+◌, ◌-◌, ◌≤◌, ◌⊎◌, inl, inr, ℕ, Bool, true, false, ◌&&◌, ◌||◌, not, nat_eq, cond, IsTrue, List, [], ◌∷◌, ◌++◌, length, get_or, refl, ap, sym, ◌∙◌, subst, arith, length-append, eq-eqb}
 use Rattle.std.proofs.Math.ListN.{set}
-use Rattle.std.specs.Prelude.{Option, Some, None, slice_get, unwrap_or, ◌==◌, sum_by}
-use Rattle.std.specs.List.{filter_map, list_any, flat_map}
+use Rattle.std.specs.Prelude.{Option, Some, slice_get, unwrap_or, sum_by}
+use Rattle.std.specs.List.{filter_map, list_any}
 use Rattle.std.specs.Str.{bytes_eq}
 use Rattle.std.specs.FinMap as finite
-use Rattle.std.specs.FinSet as finset
 use Rattle.std.specs.Ordering.{nat_cmp, eq_by_cmp, is_eq}
 use Rattle.std.specs.Cmp.{Equal-is, tied_itself}
 use Rattle.std.specs.Cmp.Lexicographic.{slice_cmp, nat_list_cmp_total}
-use Rattle.std.proofs.lemmas.Bool.{cases_eq, cases_lt, cases_Bool, ne_eqb}
+use Rattle.std.proofs.lemmas.Bool.{cases_lt, cases_Bool, ne_eqb}
 use Rattle.std.proofs.lemmas.List.{map-append, get_or_append_left, get_or_past}
 use Rattle.std.proofs.Math.Seq.{get_or-append_seam}
 use Rattle.std.proofs.lemmas.List.Folds.{list_any-append}
 use Rattle.std.proofs.lemmas.List.Sums.{sum_by-append}
 use Rattle.std.proofs.lemmas.Grind.{flat_map-append}
 use Rattle.std.proofs.lemmas.Slice.Eq.{bytes_eq-Decides}
-use Rattle.page_base.specs.declared.numbers.PageId.{PageId}
 use Rattle.page_base.specs.declared.numbers.SnapNo.{SnapNo}
 use Rattle.plain_model.specs.declared.stmt.Stmt.{Stmt}
 use Rattle.plain_model.specs.declared.stmt.Stmt.TheVariants.{CreateSnap}
@@ -32,28 +30,27 @@ use Rattle.plain_model.specs.Next as next_words
 use Rattle.plain_model.specs.State as plain_state
 use Rattle.plain_model.specs.State.{Plain, Session, session, stmt_of, committed, copy, master, is_suspect}
 use Rattle.plain_model.specs.Legal.{LegalFrom, MayCome, end_from, after, with_first, with_session, without_names, new_names, counted}
-use Rattle.plain_model.specs.Complete.{Mark, Answered, mark_of}
+use Rattle.plain_model.specs.Complete.{Answered, mark_of}
 use Rattle.plain_model.specs.Sound.{are_distinct}
 use Rattle.snap_pages.specs.declared.state.SnapState.TheVariants.{Online, Suspect}
 use Rattle.snap_pages.specs.Sparse.{Sparse, faults}
 use Rattle.snap_pages.specs.Catalog.{Snap, LacksName, no_snap, snap_at}
-use Rattle.snap_pages.specs.Shown.{Shown, img, counts, count, catalog, IsOpen, set_of, state_of, with_catalog}
+use Rattle.snap_pages.specs.Shown.{Shown, img, counts, count, catalog, IsOpen, with_catalog}
 use Rattle.snap_pages.specs.Views.{view, IsKept, CutsView}
 use Rattle.table_pages.specs.Carried.{data_pages}
 use Rattle.engine_core.specs.Entering.{Kept}
 use Rattle.engine_core.specs.Databases.{Means}
 use Rattle.engine_core.specs.declared.database.Database.TheVariants.{Absent}
-use Rattle.engine_core.specs.Pushing.{plainly, weight, snaps_of, sound, name_of, faults_of}
+use Rattle.engine_core.specs.Pushing.{plainly, weight, snaps_of, sound, name_of}
 use Rattle.engine_core.specs.Stepping.{number, idle, busy, mid}
-use Rattle.engine_core.specs.Safe.{Run, Disk, state, seat_at, script_at, InStep, AreSeated, AreTables, AreInts, AreCopies, sparse_names, AreOut, is_turn, AreBlamed, HasRoom, Safe}
-use Rattle.engine_core.specs.Creating.{IsAsked, Makes, IsNew, new_snap, with_snap, cut_events}
+use Rattle.engine_core.specs.Safe.{Run, Disk, state, seat_at, InStep, AreTables, AreInts, AreCopies, sparse_names, AreOut, AreBlamed, Safe}
+use Rattle.engine_core.specs.Creating.{IsAsked, IsNew, new_snap, with_snap, cut_events}
 use Rattle.engine_core.proofs.PushLemmas.{bytes_same, bytes_ne}
 use Rattle.engine_core.proofs.Stepping.{both, session_mid, session_there, after_said}
 use Rattle.engine_core.proofs.Placed.{lacks_lost}
 use Rattle.engine_core.proofs.SafeLemmas.{same_tables}
 use Rattle.engine_core.proofs.Doubts.{has, has_without}
-use Rattle.engine_core.proofs.CutLemmas.{snaps_are}
-use Rattle.engine_core.proofs.Cutting.{since, next_seat, around_here, is_here, at_moment, says_stmt, says_at, reply_comes, leads_here, legal_here, later_is, sessions_next, room_next, turned_before}
+use Rattle.engine_core.proofs.Cutting.{since, next_seat, around_here, is_here, says_stmt, says_at, reply_comes, leads_here, legal_here, later_is, sessions_next, room_next, turned_before}
 
 -- NAMES
 
@@ -175,7 +172,7 @@ module _ (source file : List ℕ) (disk0 : Disk) (v0 : Shown) (snap : List ℕ) 
   reaches =
       ap (λ (x : Plain). after x (Said (number (i + 1)) (said + 1) (length e.kept.events) Ok)) cut_leads
       ∙ after_said base (i + 1) there said current current false since_here [] (Some st.moment) (Some snap) (Cut snap ∷ st.journal) (Cut snap ∷ st.journal) (st.snaps ++ cut_snap ∷ []) (st.snaps ++ cut_snap ∷ []) (st.moment + 1) base stmt (said + 1) (length e.kept.events) Ok
-        refl asked.safe.machine.settled says_cut refl
+      refl asked.safe.machine.settled says_cut refl
       ∙ ap (λ n. mid base (i + 1) (idle (said + 1) current false n) (Cut snap ∷ st.journal) (st.snaps ++ cut_snap ∷ []) n) (omega arith)
 
   lacks : LacksName (catalog e.shown) snap
@@ -195,8 +192,11 @@ module _ (source file : List ℕ) (disk0 : Disk) (v0 : Shown) (snap : List ℕ) 
   may_come : IsTrue e.disk.told → LegalFrom st events
   may_come told = (
     (there, ap (next_of st (i + 1)) (says_stmt source file disk0 v0 snap files of e i asked) ∙ cuts told),
-    (subst (λ (x : Plain). MayCome x (Said (number (i + 1)) (said + 1) (length e.kept.events) Ok)) (sym cut_leads)
-      (reply_comes source file disk0 v0 snap files of e i asked is_cut (Some snap) (Some st.moment) Ok (session_there base (i + 1) there making (Cut snap ∷ st.journal) (st.snaps ++ cut_snap ∷ []) (st.moment + 1)) in_making says_cut (omega arith) (inl replies_ok)), tt),
+    (
+      subst (λ (x : Plain). MayCome x (Said (number (i + 1)) (said + 1) (length e.kept.events) Ok)) (sym cut_leads)
+          (reply_comes source file disk0 v0 snap files of e i asked is_cut (Some snap) (Some st.moment) Ok (session_there base (i + 1) there making (Cut snap ∷ st.journal) (st.snaps ++ cut_snap ∷ []) (st.moment + 1)) in_making says_cut (omega arith) (inl replies_ok)),
+      tt,
+    ),
   )
 
   marked : filter_map (mark_of (i + 1)) events ≡ Answered (said + 1) ∷ []
@@ -315,14 +315,14 @@ module _ (source file : List ℕ) (disk0 : Disk) (v0 : Shown) (snap : List ℕ) 
   copies_now : (s : SnapNo) → IsKept v s → AreTables (data_pages v) (view v s) (copy (state next) (name_of v s))
   copies_now s is_kept = elim (adds.views s is_kept) [
     | inl old ↦
-      let open_before = kept_open s old.0 in
-      let name_same : name_of v s ≡ name_of e.shown s = ap (λ (y : Snap). y.name) (old_at s open_before) in
-      same_tables (data_pages e.shown) (data_pages v) (view e.shown s) (view v s) (copy st (name_of e.shown s)) (copy (state next) (name_of v s)) pages_same old.1
-      (ap (copy (state next)) name_same ∙ copy_old (name_of e.shown s) (lacks s open_before)) (asked.safe.pages.copies s old.0)
+        let open_before = kept_open s old.0 in
+        let name_same : name_of v s ≡ name_of e.shown s = ap (λ (y : Snap). y.name) (old_at s open_before) in
+        same_tables (data_pages e.shown) (data_pages v) (view e.shown s) (view v s) (copy st (name_of e.shown s)) (copy (state next) (name_of v s)) pages_same old.1
+        (ap (copy (state next)) name_same ∙ copy_old (name_of e.shown s) (lacks s open_before)) (asked.safe.pages.copies s old.0)
     | inr new ↦
-      let name_is : name_of v s ≡ snap = ap (λ (y : Snap). y.name) (new_at s new.0) in
-      same_tables (data_pages e.shown) (data_pages v) (img e.shown) (view v s) (committed st) (copy (state next) (name_of v s)) pages_same new.1
-      (ap (copy (state next)) name_is ∙ copy_new) asked.safe.pages.source
+        let name_is : name_of v s ≡ snap = ap (λ (y : Snap). y.name) (new_at s new.0) in
+        same_tables (data_pages e.shown) (data_pages v) (img e.shown) (view v s) (committed st) (copy (state next) (name_of v s)) pages_same new.1
+        (ap (copy (state next)) name_is ∙ copy_new) asked.safe.pages.source
   ]
 
   pages_next : AreCopies next
@@ -387,8 +387,8 @@ module _ (source file : List ℕ) (disk0 : Disk) (v0 : Shown) (snap : List ℕ) 
       | inr at ↦ absurd (let y : Online ≡ Suspect = ap (λ (y : Snap). y.state) (sym (new_at s at)) ∙ lost in cc)
     ];
     turned = λ h.
-      let t = asked.safe.blame.turned (turned_before source file disk0 v0 snap files of e i asked disk v kept events more left enough marked others reached reaches refl refl h) in
-      (t.0, (let c = counted_more in let o = t.1 in omega (arith, c, o)), ap (λ (y : Snap). y.state) (old_at t.0 t.1) ∙ t.2);
+        let t = asked.safe.blame.turned (turned_before source file disk0 v0 snap files of e i asked disk v kept events more left enough marked others reached reaches refl refl h) in
+        (t.0, (let c = counted_more in let o = t.1 in omega (arith, c, o)), ap (λ (y : Snap). y.state) (old_at t.0 t.1) ∙ t.2);
   }
 
   pub safe_cut : Safe (record e { disk = disk; shown = v; seats = set e.seats i (record { current = (seat_at e i).current; said = (seat_at e i).said + 1; gone = false }); kept = kept })
@@ -408,7 +408,7 @@ pub cut_safe : (source file : List ℕ) (disk0 : Disk) (v0 : Shown) (snap : List
     Safe (record e { disk = disk; shown = v; seats = set e.seats i (record { current = (seat_at e i).current; said = (seat_at e i).said + 1; gone = false }); kept = kept })
 cut_safe source file disk0 v0 snap files of e i asked disk v kept0 kept k n names added kept_is k_is n_is adds more left cuts =
     safe_cut source file disk0 v0 snap files of e i asked disk v kept names added
-      (subst (λ (d : Disk). AddsSnap source snap files e.shown v d disk names added) (sym asked.disk_is) (subst (λ (w : Shown). AddsSnap source snap files w v disk0 disk names added) (sym asked.shown_is) adds))
-      (more ∙ ap (λ (q : Kept). q.events ++ cut_events k n (length q.events) snap) (sym kept_is) ∙ ap (λ m. e.kept.events ++ cut_events m n (length e.kept.events) snap) k_is ∙ ap (λ m. e.kept.events ++ cut_events (i + 1) m (length e.kept.events) snap) n_is)
-      (left ∙ ap (λ (q : Kept). q.room) (sym kept_is))
-      (λ told. cuts (subst (λ (d : Disk). IsTrue d.told) asked.disk_is told))
+    (subst (λ (d : Disk). AddsSnap source snap files e.shown v d disk names added) (sym asked.disk_is) (subst (λ (w : Shown). AddsSnap source snap files w v disk0 disk names added) (sym asked.shown_is) adds))
+    (more ∙ ap (λ (q : Kept). q.events ++ cut_events k n (length q.events) snap) (sym kept_is) ∙ ap (λ m. e.kept.events ++ cut_events m n (length e.kept.events) snap) k_is ∙ ap (λ m. e.kept.events ++ cut_events (i + 1) m (length e.kept.events) snap) n_is)
+    (left ∙ ap (λ (q : Kept). q.room) (sym kept_is))
+    (λ told. cuts (subst (λ (d : Disk). IsTrue d.told) asked.disk_is told))

@@ -1,50 +1,47 @@
 -- CREATE DATABASE keeps what always holds of the engine.
-use Rattle.std.proofs.Common.{◌≡◌, ◌≢◌, ◌+◌, ◌-◌, ◌*◌, ◌<◌, ◌≤◌, ◌⊎◌, inl, inr, ℕ, suc, zero, Bool, true, false, ◌&&◌, ◌||◌, not, nat_eq, cond, IsTrue, List, [], ◌∷◌, ◌++◌, length, map, get_or, refl, ap, sym, ◌∙◌, subst, arith, length-set, length-append, append-nil, append_assoc, eq-eqb}
+use Rattle.std.proofs.Common.{◌≡◌, ◌≢◌, ◌+◌, ◌-◌, ◌<◌, ◌≤◌, ◌⊎◌, inl, inr, ℕ, Bool, true, false, ◌||◌, nat_eq, cond, IsTrue, List, [], ◌∷◌, ◌++◌, length, map, get_or, refl, ap, sym, ◌∙◌, subst, arith, length-append, append-nil, eq-eqb}
 use Rattle.std.proofs.Math.ListN.{set}
 use Rattle.std.specs.Prelude.{Option, Some, None, slice_get, unwrap_or, ◌==◌}
-use Rattle.std.specs.List.{filter_map, range_with_len, list_any, flat_map}
+use Rattle.std.specs.List.{filter_map, range_with_len, list_any}
 use Rattle.std.specs.Str.{bytes_eq}
 use Rattle.std.specs.FinMap as finite
 use Rattle.std.specs.FinSet as finset
-use Rattle.std.proofs.lemmas.Bool.{cases_eq, cases_lt, cases_Bool, ne_eqb}
-use Rattle.std.proofs.lemmas.List.{get_or_past, get_or-set_same, set-set}
+use Rattle.std.proofs.lemmas.Bool.{cases_Bool, ne_eqb}
 use Rattle.std.proofs.lemmas.List.Folds.{list_any-append}
 use Rattle.std.proofs.lemmas.List.FromFn.{map-range_with_len_more}
 use Rattle.std.proofs.lemmas.Option.{slice_get_within}
 use Rattle.page_base.specs.declared.numbers.SessNo.{SessNo}
-use Rattle.page_base.specs.declared.numbers.SnapNo.{SnapNo}
 use Rattle.plain_model.specs.declared.stmt.Stmt.{Stmt}
 use Rattle.plain_model.specs.declared.stmt.Stmt.TheVariants.{CreateSnap}
 use Rattle.plain_model.specs.declared.stmt.SnapFile.{SnapFile}
 use Rattle.plain_model.specs.declared.event.Event.{Event}
-use Rattle.plain_model.specs.declared.event.Event.TheVariants.{CutAt, Said}
+use Rattle.plain_model.specs.declared.event.Event.TheVariants.{Said}
 use Rattle.plain_model.specs.declared.reply.Reply.{Reply}
-use Rattle.plain_model.specs.declared.reply.Reply.TheVariants.{Ok, Msg}
+use Rattle.plain_model.specs.declared.reply.Reply.TheVariants.{Msg}
 use Rattle.plain_model.specs.Tables.{Tables}
-use Rattle.plain_model.specs.Journal.{Opening, Entry, Cut}
+use Rattle.plain_model.specs.Journal.{Opening}
 use Rattle.plain_model.specs.Meaning.{plain}
 use Rattle.plain_model.specs.Next.{Cuts, next_of}
 use Rattle.plain_model.specs.Next as next_words
 use Rattle.plain_model.specs.Free.{IsFree}
 use Rattle.plain_model.specs.State as plain_state
 use Rattle.plain_model.specs.State.{Plain, Session, fresh_session, session, stmt_of, committed, copy, master}
-use Rattle.plain_model.specs.Legal.{LegalFrom, MayCome, Legal, end, end_from, after, effect, with_doubt, without_made, with_session, counted, answered}
+use Rattle.plain_model.specs.Legal.{LegalFrom, MayCome, Legal, end, end_from, after, effect, with_doubt, without_made}
 use Rattle.plain_model.specs.Complete.{Mark, Answered, Gone, mark_of}
-use Rattle.snap_pages.specs.declared.state.SnapState.TheVariants.{Suspect}
 use Rattle.snap_pages.specs.Views.{view}
-use Rattle.snap_pages.specs.Shown.{Shown, img, counts, count, catalog, IsOpen, set_of, state_of}
+use Rattle.snap_pages.specs.Shown.{Shown, img}
 use Rattle.table_pages.specs.Carried.{data_pages}
 use Rattle.engine_core.specs.declared.seat.Seat.{Seat}
 use Rattle.engine_core.specs.Entering.{Kept, entered}
-use Rattle.engine_core.specs.Pushing.{snaps_of, sound, name_of, faults_of}
+use Rattle.engine_core.specs.Pushing.{sound, name_of}
 use Rattle.engine_core.specs.Ready.{Allowed}
 use Rattle.engine_core.specs.Stepping.{number, idle, busy, mid, Around}
-use Rattle.engine_core.specs.Safe.{Run, Disk, state, seat_at, script_at, InStep, AreSeated, IsSeated, marks_of, AreInts, AreTables, AreCopies, sparse_names, AreOut, is_turn, AreBlamed, dues, HasRoom, Safe}
+use Rattle.engine_core.specs.Safe.{Run, Disk, state, seat_at, script_at, InStep, AreSeated, marks_of, AreInts, AreTables, is_turn, HasRoom, Safe}
 use Rattle.engine_core.specs.Creating.{IsAsked, Refuses}
 use Rattle.engine_core.proofs.Stepping.{start_mid, session_mid, after_said, legal_append, end_append}
-use Rattle.engine_core.proofs.SeatLemmas.{around, session_is, seated_next, dues_set}
+use Rattle.engine_core.proofs.SeatLemmas.{seated_next, dues_set}
 use Rattle.engine_core.proofs.SafeLemmas.{either}
-use Rattle.engine_core.proofs.Doubts.{has, has_without}
+use Rattle.engine_core.proofs.Doubts.{has_without}
 use Rattle.engine_core.proofs.CutLemmas.{round, here_is, seated_here}
 
 -- WHAT A STATEMENT'S EVENTS LEAVE OF THE SESSIONS AND THE ROOM
@@ -214,10 +211,10 @@ module _ (source file : List ℕ) (disk0 : Disk) (v0 : Shown) (snap : List ℕ) 
     reaches =
         ap (λ (x : Plain). after x event) (begin source file disk0 v0 snap files of e i asked)
         ∙ after_said (state e) (i + 1) (around_here source file disk0 v0 snap files of e i asked).there (seat_at e i).said (seat_at e i).current (seat_at e i).current false (since source file disk0 v0 snap files of e i asked) [] None None
-          (state e).journal (state e).journal (state e).snaps (state e).snaps (state e).moment base (CreateSnap snap files of) ((seat_at e i).said + 1) (length e.kept.events) (Msg (plain code))
-          b.sessions b.settled
-          (ap (λ (u : Session). slice_get (get_or (state e).scripts (i + 1 - 1) []) u.said) (session_mid (state e) (i + 1) (around_here source file disk0 v0 snap files of e i asked).there here (state e).journal (state e).snaps (state e).moment) ∙ says_at source file disk0 v0 snap files of e i asked)
-          b.does
+        (state e).journal (state e).journal (state e).snaps (state e).snaps (state e).moment base (CreateSnap snap files of) ((seat_at e i).said + 1) (length e.kept.events) (Msg (plain code))
+        b.sessions b.settled
+        (ap (λ (u : Session). slice_get (get_or (state e).scripts (i + 1 - 1) []) u.said) (session_mid (state e) (i + 1) (around_here source file disk0 v0 snap files of e i asked).there here (state e).journal (state e).snaps (state e).moment) ∙ says_at source file disk0 v0 snap files of e i asked)
+        b.does
 
     sessions_are : reached.sessions ≡ set (state e).sessions (i + 1 - 1) (idle ((seat_at e i).said + 1) (seat_at e i).current false ((state e).moment + 1))
     sessions_are = ap (λ (ss : List Session). set ss (i + 1 - 1) (idle ((seat_at e i).said + 1) (seat_at e i).current false ((state e).moment + 1))) b.sessions
@@ -292,7 +289,7 @@ module _ (source file : List ℕ) (disk0 : Disk) (v0 : Shown) (snap : List ℕ) 
       does = rw n refl;
       places = λ told name. elim (places told name) [
         | inl p ↦ absurd (let x : true ≡ false = sym p.0 ∙ n in cc)
-        | inr same ↦ elim (asked.safe.files.names told name) [ | inl d ↦ inl d | inr on ↦ inr (same ∙ on) ]
+        | inr same ↦ elim (asked.safe.files.names told name) [ inl d ↦ inl d | inr on ↦ inr (same ∙ on) ]
       ];
     }
 
@@ -344,11 +341,11 @@ pub refused_safe : (source file : List ℕ) (disk0 : Disk) (v0 : Shown) (snap : 
 refused_safe source file disk0 v0 snap files of e i asked disk kept0 kept who n reply kept_is who_is n_is refuses made room may =
     let told_is : e.disk.told ≡ disk0.told = ap (λ (d : Disk). d.told) asked.disk_is in
     subst (λ (w : Shown). Safe (record e { disk = disk; shown = w; seats = set e.seats i (record { current = (seat_at e i).current; said = (seat_at e i).said + 1; gone = false }); kept = kept })) asked.shown_is
-      (safe_refused source file disk0 v0 snap files of e i asked disk kept refuses.code
-        (made ∙ ap (λ (q : Kept). entered q (Said who n (length q.events) reply)) (sym kept_is) ∙ ap (λ m. entered e.kept (Said (number m) n (length e.kept.events) reply)) who_is
-          ∙ ap (λ m. entered e.kept (Said (number (i + 1)) m (length e.kept.events) reply)) n_is ∙ ap (λ r. entered e.kept (Said (number (i + 1)) ((seat_at e i).said + 1) (length e.kept.events) r)) refuses.is)
-        (subst (λ (q : Kept). 0 < q.room) (sym kept_is) room)
-        (refuses.told ∙ sym told_is)
-        (refuses.out ∙ ap (λ (d : Disk). d.out) (sym asked.disk_is))
-        (λ told. subst (λ (r : Reply). Allowed (state e) (i + 1) (CreateSnap snap files of) r) refuses.is (may (sym told_is ∙ told)))
-        (λ told name. subst (λ (d : Disk). (((refuses.code == 60021) ≡ true) × (list_any (bytes_eq name) (next_words.sparse_names files) ≡ true)) ⊎ (finite.contains_key disk.folder name ≡ finite.contains_key d.folder name)) (sym asked.disk_is) (refuses.places (sym told_is ∙ told) name)))
+    (safe_refused source file disk0 v0 snap files of e i asked disk kept refuses.code
+    (made ∙ ap (λ (q : Kept). entered q (Said who n (length q.events) reply)) (sym kept_is) ∙ ap (λ m. entered e.kept (Said (number m) n (length e.kept.events) reply)) who_is
+    ∙ ap (λ m. entered e.kept (Said (number (i + 1)) m (length e.kept.events) reply)) n_is ∙ ap (λ r. entered e.kept (Said (number (i + 1)) ((seat_at e i).said + 1) (length e.kept.events) r)) refuses.is)
+    (subst (λ (q : Kept). 0 < q.room) (sym kept_is) room)
+    (refuses.told ∙ sym told_is)
+    (refuses.out ∙ ap (λ (d : Disk). d.out) (sym asked.disk_is))
+    (λ told. subst (λ (r : Reply). Allowed (state e) (i + 1) (CreateSnap snap files of) r) refuses.is (may (sym told_is ∙ told)))
+    (λ told name. subst (λ (d : Disk). (((refuses.code == 60021) ≡ true) × (list_any (bytes_eq name) (next_words.sparse_names files) ≡ true)) ⊎ (finite.contains_key disk.folder name ≡ finite.contains_key d.folder name)) (sym asked.disk_is) (refuses.places (sym told_is ∙ told) name)))

@@ -1,14 +1,13 @@
 -- No name is both on the volume and in doubt, whatever the plain machine has come to.
-use Rattle.std.proofs.Common.{◌≡◌, ◌+◌, ℕ, Bool, true, false, ◌&&◌, ◌||◌, not, cond, List, [], ◌∷◌, ◌++◌, refl, ap, sym, ◌∙◌, subst, inl, inr, ◌⊎◌}
-use Rattle.std.specs.Prelude.{Option, Some, None, ◌==◌, filter}
+use Rattle.std.proofs.Common.{◌≡◌, ℕ, Bool, true, false, ◌&&◌, ◌||◌, not, cond, List, [], ◌∷◌, ◌++◌, refl, ap, sym, ◌∙◌, inl, inr}
+use Rattle.std.specs.Prelude.{Option, Some, None, ◌==◌}
 use Rattle.std.specs.List.{list_any}
 use Rattle.std.specs.Str.{bytes_eq}
 use Rattle.std.proofs.lemmas.Bool.{cases_Bool}
 use Rattle.std.proofs.lemmas.List.Folds.{list_any-append}
 use Rattle.std.proofs.lemmas.Slice.Eq.{bytes_eq-Decides}
-use Rattle.page_base.specs.declared.numbers.SessNo.{SessNo}
 use Rattle.plain_model.specs.declared.stmt.Stmt.{Stmt}
-use Rattle.plain_model.specs.declared.stmt.Stmt.TheVariants.{UseDb, CreateTable, Insert, Update, CreateSnap}
+use Rattle.plain_model.specs.declared.stmt.Stmt.TheVariants.{CreateTable, Insert, Update, CreateSnap}
 use Rattle.plain_model.specs.declared.event.Event.{Event}
 use Rattle.plain_model.specs.declared.event.Event.TheVariants.{Locked, CutAt, RestoreAt, Turned, Said, Left}
 use Rattle.plain_model.specs.declared.reply.Message.{Message}
@@ -32,12 +31,12 @@ has_without n names (x ∷ xs) =
     let ih = has_without n names xs in
     elim (cases_Bool (bytes_eq n x)) [
       | inl e ↦
-        let same : n ≡ x = (bytes_eq-Decides n x).0 e in
-        let here : has x names ≡ has n names = ap (λ y. has y names) (sym same) in
-        elim (cases_Bool (has n names)) [
-          | inl t ↦ (let u : has x names ≡ true = here ∙ t in rw u (ih ∙ (rw t refl)))
-          | inr f ↦ (let u : has x names ≡ false = here ∙ f in rw (u, e, f) refl)
-        ]
+          let same : n ≡ x = (bytes_eq-Decides n x).0 e in
+          let here : has x names ≡ has n names = ap (λ y. has y names) (sym same) in
+          elim (cases_Bool (has n names)) [
+            | inl t ↦ (let u : has x names ≡ true = here ∙ t in rw u (ih ∙ (rw t refl)))
+            | inr f ↦ (let u : has x names ≡ false = here ∙ f in rw (u, e, f) refl)
+          ]
       | inr e ↦ elim (cases_Bool (has x names)) [
         | inl t ↦ rw (t, e) ih
         | inr f ↦ rw (f, e) ih
@@ -57,8 +56,8 @@ doubt_known st names h n there =
     has_without n names st.on_volume ∙ elim (cases_Bool (has n names)) [
       | inl t ↦ rw t refl
       | inr f ↦
-        let old : has n st.in_doubt ≡ true = ap (λ b. b || has n st.in_doubt) (sym f) ∙ sym (list_any-append (bytes_eq n) names st.in_doubt) ∙ there in
-        let out = h n old in rw (f, out) refl
+          let old : has n st.in_doubt ≡ true = ap (λ b. b || has n st.in_doubt) (sym f) ∙ sym (list_any-append (bytes_eq n) names st.in_doubt) ∙ there in
+          let out = h n old in rw (f, out) refl
     ]
 
 made_known : (st : Plain) (made : Option (List ℕ)) → AreKnown st → AreKnown (without_made st made)

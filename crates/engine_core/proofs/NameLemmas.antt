@@ -1,5 +1,5 @@
 -- Names on a volume, in lists and under snapshots, and what calls on the volume make of them.
-use Rattle.std.proofs.Common.{◌≡◌, ◌≢◌, ◌+◌, ◌<◌, ◌≤◌, ◌⊎◌, inl, inr, ℕ, suc, zero, Bool, true, false, ◌&&◌, ◌||◌, not, nat_eq, cond, IsTrue, List, [], ◌∷◌, ◌++◌, length, map, take, get_or, refl, ap, sym, ◌∙◌, subst, arith, append_assoc}
+use Rattle.std.proofs.Common.{◌≡◌, ◌<◌, ◌≤◌, inl, inr, ℕ, suc, zero, Bool, true, false, ◌&&◌, ◌||◌, not, cond, IsTrue, List, [], ◌∷◌, ◌++◌, length, get_or, refl, ap, sym, ◌∙◌, subst, arith, append_assoc}
 use Rattle.std.specs.Prelude.{Option, Some, None, is_some, is_ok, OnOk, OnErr, IfOk, IfErr, Result, Ok, Err, ◌==◌}
 use Rattle.std.specs.Result.{IsErrAnd}
 use Rattle.std.proofs.lemmas.Result.{err_from_is_err_and}
@@ -29,7 +29,7 @@ use Rattle.std.proofs.lemmas.List.Folds.{list_any-append}
 use Rattle.engine_core.specs.Entering as kept
 use Rattle.engine_core.specs.Safe.{Disk}
 use Rattle.engine_core.specs.Creating.{Reason, VolumeFailed, HasFile, HasNoPlace, HasNoMemory, Refuses, GivesBack, Makes, cut_events}
-use Rattle.engine_core.proofs.PushLemmas.{bytes_same, bytes_ne}
+use Rattle.engine_core.proofs.PushLemmas.{bytes_same}
 
 -- two names are tied exactly where they are the same bytes
 pub tie : (a b : List ℕ) → eq_by_cmp (slice_cmp nat_cmp) a b ≡ bytes_eq a b
@@ -150,11 +150,11 @@ refused_back path old mid new reply told fresh made out unused later file_later 
       told = back.told ∙ told;
       places = λ t name. elim (cases_Bool (bytes_eq name path)) [
         | inl same ↦
-          let is : name ≡ path = (bytes_eq-Decides name path).0 same in
-          elim back.either [
-            | inl seven ↦ inr (ap (finite.contains_key new.folder) is ∙ back.freed (told_mid t) seven ∙ sym (fresh t) ∙ ap (finite.contains_key old.folder) (sym is))
-            | inr f ↦ inl (ap (λ n. n == 60021) f.0, ap (λ b. b || false) same)
-          ]
+            let is : name ≡ path = (bytes_eq-Decides name path).0 same in
+            elim back.either [
+              | inl seven ↦ inr (ap (finite.contains_key new.folder) is ∙ back.freed (told_mid t) seven ∙ sym (fresh t) ∙ ap (finite.contains_key old.folder) (sym is))
+              | inr f ↦ inl (ap (λ n. n == 60021) f.0, ap (λ b. b || false) same)
+            ]
         | inr other ↦ inr (back.places (told_mid t) name other ∙ ap (λ m. finite.contains_key m name) (made t) ∙ key-insert_other old.folder path Out name other)
       ];
       out = back.out ∙ ap (λ o. finset.remove o path) out ∙ put_back old.out path unused;
@@ -190,7 +190,7 @@ refuses_none names old new reply r = record {
   code = r.code;
   is = r.is;
   told = r.told;
-  places = λ t name. elim (r.places t name) [ | inl p ↦ absurd (let x : false ≡ true = p.1 in cc) | inr same ↦ inr same ];
+  places = λ t name. elim (r.places t name) [ inl p ↦ absurd (let x : false ≡ true = p.1 in cc) | inr same ↦ inr same ];
   out = r.out;
   cause = r.cause;
   failures = r.failures;
@@ -204,7 +204,7 @@ module _ (old mid : Disk) (told : mid.told ≡ old.told) (folder : IsTrue old.to
     code = r.code;
     is = r.is;
     told = r.told ∙ told;
-    places = λ t name. elim (r.places (told ∙ t) name) [ | inl p ↦ inl p | inr same ↦ inr (same ∙ ap (λ m. finite.contains_key m name) (folder t)) ];
+    places = λ t name. elim (r.places (told ∙ t) name) [ inl p ↦ inl p | inr same ↦ inr (same ∙ ap (λ m. finite.contains_key m name) (folder t)) ];
     out = r.out ∙ out;
     cause = λ y. later_rose old.failures mid.failures new.failures later (r.cause y);
     failures = let a = r.failures in omega (arith, a, later);

@@ -15,7 +15,6 @@ use Rattle.snap_pages.specs.declared.state.SnapState.TheVariants.{Online}
 use Rattle.snap_pages.specs.Sparse.{Sparse}
 use Rattle.snap_pages.specs.Catalog.{Snap, Catalog}
 use Rattle.snap_pages.specs.Shown.{Shown, count, catalog}
-use Rattle.engine_core.specs.Entering.{Kept}
 use Rattle.engine_core.specs.Ready.{Allowed}
 use Rattle.engine_core.specs.Safe.{Run, Disk, Safe, state, seat_at, script_at}
 use Rattle.engine_core.specs.Stepping.{number}

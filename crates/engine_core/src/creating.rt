@@ -1,16 +1,15 @@
 //! CREATE DATABASE: a snapshot's sparse file is made, and then the cut, or the first refusal that applies.
 
-ghost use Rattle.std.specs.Prelude.{◌≡◌, ◌+◌, ◌-◌, ◌^◌, ◌<◌, ◌≤◌, ◌++◌, ◌∷◌, ◌||◌, [], ℕ, List, Some, true, false, drop, length, slice_get, slice_index, slice_set, vec_capacity, IfOk, IfErr, OnOk, OnErr, IsTrue};
+ghost use Rattle.std.specs.Prelude.{◌≡◌, ◌+◌, ◌-◌, ◌<◌, ◌≤◌, ◌++◌, ◌∷◌, ◌||◌, [], ℕ, List, Some, true, false, drop, length, slice_get, slice_index, slice_set, vec_capacity, IfOk, IfErr, OnOk, IsTrue};
 ghost use Rattle.std.specs.List.{list_any};
 ghost use Rattle.std.specs.Str.{bytes_eq};
 ghost use Rattle.std.specs.FinMap as finite;
 ghost use Rattle.std.specs.FinSet as finset;
-ghost use Rattle.page_dev.specs.Faults.{Rose, HasCause};
+ghost use Rattle.page_dev.specs.Faults.{Rose};
 ghost use Rattle.plain_model.specs.declared.stmt.Stmt.TheVariants.{CreateSnap};
-ghost use Rattle.plain_model.specs.declared.event.Event.TheVariants.{CutAt, Said};
+ghost use Rattle.plain_model.specs.declared.event.Event.TheVariants.{Said};
 ghost use Rattle.plain_model.specs.Free.{IsMaking};
-ghost use Rattle.plain_model.specs.Next.{Cuts, is_each_once, logical_names, next_of};
-ghost use Rattle.plain_model.specs.Next.{sparse_names as paths_of};
+ghost use Rattle.plain_model.specs.Next.{Cuts, is_each_once, logical_names, next_of, sparse_names as paths_of};
 ghost use Rattle.snap_pages.specs.Sparse.{IsEmptyMap};
 ghost use Rattle.snap_pages.specs.Catalog.{LacksName};
 ghost use Rattle.snap_pages.specs.Shown.{Shown, catalog, counts, count, with_catalog};
@@ -28,13 +27,13 @@ use crate::Ledger;
 use crate::answering::enter_reply;
 use crate::database::{find_database, is_home, is_there};
 use crate::refusal::refused;
-use page_base::{Failed, FileName, Name, NoMemory, SessNo, SnapNo};
+use page_base::{FileName, Name, NoMemory, SessNo, SnapNo};
 use page_dev::{FileList, PageFile, VolRefusal, Volume};
 use plain_model::{Event, Reply, SnapFiles};
 use snap_pages::{FileNames, SnapPages, SnapState, SparseSet};
 use std::alloc::Global;
 
-/// A new snapshot's sparse file under its name, before the cut.
+// A new snapshot's sparse file under its name, before the cut.
 #[derive(Drop)]
 struct NewFile<P: PageFile> {
     names: FileNames,
@@ -219,6 +218,7 @@ fn make_file<V: Volume>(
             let _ = volume.remove(path);
             Err(refused(60021))
         }
+        // a call that makes a file never answers so
         Err(VolRefusal::Absent) => Err(refused(60021)),
         Err(VolRefusal::Length { .. }) => Err(refused(60021)),
     }

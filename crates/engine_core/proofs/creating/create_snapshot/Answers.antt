@@ -1,4 +1,4 @@
-use Rattle.std.proofs.Common.{◌≡◌, ◌≤◌, ◌<◌, ◌∙◌, ◌+◌, ℕ, ap, sym, refl, arith, subst, IsTrue}
+use Rattle.std.proofs.Common.{arith}
 use Rattle.plain_model.specs.declared.stmt.Stmt.TheVariants.{CreateSnap}
 use Rattle.engine_core.specs.Creating.{IsAsked}
 use Rattle.engine_core.specs.Disks.{disk_of}
@@ -12,9 +12,9 @@ returns-in-Ok-clause-safe g c = λ e i safe there here says disk_is shown_is kep
     let asked : IsAsked c.args.source.now c.args.file.now (disk c.args.volume.now) c.args.pages.now (CreateSnap c.args.snap.now c.args.files.now c.args.of.now) e i = record { safe = safe; there = there; here = here; says = says; disk_is = disk_is; shown_is = shown_is; source_is = source_is; files_are = files_are } in
     let p = c.in-Ok.ensures in
     cut_safe c.args.source.now c.args.file.now (disk c.args.volume.now) c.args.pages.now c.args.snap.now c.args.files.now c.args.of.now e i asked
-      (disk c.prepare.new.volume) c.cut.new.pages c.args.ledger.now c.cut.new.ledger c.args.who.0 c.args.number c.in-Ok.new.names c.in-Ok.new.set kept_is who_is number_is
-      (record { free = p.new; only = c.cut.ensures.only; views = c.cut.ensures.views; is = p.made })
-      c.cut.ensures.events c.cut.ensures.left (λ told. p.cuts e i asked told)
+    (disk c.prepare.new.volume) c.cut.new.pages c.args.ledger.now c.cut.new.ledger c.args.who.0 c.args.number c.in-Ok.new.names c.in-Ok.new.set kept_is who_is number_is
+    (record { free = p.new; only = c.cut.ensures.only; views = c.cut.ensures.views; is = p.made })
+    c.cut.ensures.events c.cut.ensures.left (λ told. p.cuts e i asked told)
 
 pub returns-in-Err-clause-safe : goal.returns-in-Err-clause-safe
 returns-in-Err-clause-safe g c = λ e i safe there here says disk_is shown_is kept_is who_is number_is source_is files_are.
@@ -22,5 +22,5 @@ returns-in-Err-clause-safe g c = λ e i safe there here says disk_is shown_is ke
     let asked : IsAsked c.args.source.now c.args.file.now (disk c.args.volume.now) c.args.pages.now (CreateSnap c.args.snap.now c.args.files.now c.args.of.now) e i = record { safe = safe; there = there; here = here; says = says; disk_is = disk_is; shown_is = shown_is; source_is = source_is; files_are = files_are } in
     let room = c.requires.room in
     refused_safe c.args.source.now c.args.file.now (disk c.args.volume.now) c.args.pages.now c.args.snap.now c.args.files.now c.args.of.now e i asked
-      (disk c.prepare.new.volume) c.args.ledger.now c.refuse.new.ledger c.args.who c.args.number c.in-Err.reply kept_is who_is number_is
-      c.in-Err.ensures.refuses c.refuse.ensures (omega (arith, room)) (λ told. c.in-Err.ensures.refused e i asked told)
+    (disk c.prepare.new.volume) c.args.ledger.now c.refuse.new.ledger c.args.who c.args.number c.in-Err.reply kept_is who_is number_is
+    c.in-Err.ensures.refuses c.refuse.ensures (omega (arith, room)) (λ told. c.in-Err.ensures.refused e i asked told)

@@ -1,7 +1,6 @@
-use Rattle.std.proofs.Common.{◌≡◌, ◌≤◌, ◌∙◌, inl, inr, ℕ, List, IsTrue, ap, sym, refl, subst, arith, true, false}
+use Rattle.std.proofs.Common.{◌∙◌, inl, inr, IsTrue, ap, sym, refl, arith}
 use Rattle.std.specs.FinMap as finite
 use Rattle.std.specs.FinSet as finset
-use Rattle.page_dev.specs.Volume.{Folder}
 use Rattle.engine_core.proofs.NameLemmas.{removed_key, removed_out, key-insert_other, rose_of, rose_later, later_rose, removed_well, removed_others}
 use Rattle.engine_core.proofs.creating.give_back.Goals as goal
 use Rattle.engine_core.proofs.creating.give_back.Goals.{else-put-via-then-put+else-removed, else-put-via-else-put}
@@ -37,10 +36,13 @@ returns-else-put g c =
     record {
       code = 60021;
       is = c.refused-else-put.ensures;
-      either = inr (refl, elim c.else-put.branch [
-        | else-put-via-then-put+else-removed w ↦ later_rose (g.V.Volume.failures old) (g.V.Volume.failures mid) (g.V.Volume.failures new) c.put_pages.ensures.cause.later (rose_of c.remove.result _ (sym c.is_ok-removed.ensures.value ∙ w.if-removed.false) c.remove.ensures.cause.failed)
-        | else-put-via-else-put w ↦ rose_later (g.V.Volume.failures old) (g.V.Volume.failures mid) (g.V.Volume.failures new) (rose_of c.put_pages.result _ (sym c.is_ok-put.ensures.value ∙ w.if-put.false) c.put_pages.ensures.cause.failed) c.remove.ensures.cause.later
-      ]);
+      either = inr (
+        refl,
+        elim c.else-put.branch [
+          | else-put-via-then-put+else-removed w ↦ later_rose (g.V.Volume.failures old) (g.V.Volume.failures mid) (g.V.Volume.failures new) c.put_pages.ensures.cause.later (rose_of c.remove.result _ (sym c.is_ok-removed.ensures.value ∙ w.if-removed.false) c.remove.ensures.cause.failed)
+          | else-put-via-else-put w ↦ rose_later (g.V.Volume.failures old) (g.V.Volume.failures mid) (g.V.Volume.failures new) (rose_of c.put_pages.result _ (sym c.is_ok-put.ensures.value ∙ w.if-put.false) c.put_pages.ensures.cause.failed) c.remove.ensures.cause.later
+        ],
+      );
       told = c.remove.ensures.tells ∙ c.put_pages.ensures.tells;
       freed = λ told e. absurd (omega (arith, e));
       places = λ told q f. removed_others c.remove.result c.args.path.now (g.V.Volume.folder mid) (g.V.Volume.folder new) (c.remove.ensures.removed (told_mid told)) q f

@@ -1,11 +1,10 @@
-use Rattle.std.proofs.Common.{◌≡◌, ◌∙◌, ap, sym, refl, arith, Err}
+use Rattle.std.proofs.Common.{◌∙◌, ap, arith, Err}
 use Rattle.std.specs.FinMap as finite
 use Rattle.std.specs.FinSet as finset
 use Rattle.page_dev.specs.Volume.{Out}
 use Rattle.page_dev.proofs.OutLemmas.{taken_out}
 use Rattle.engine_core.specs.Disks.{disk_of}
-use Rattle.engine_core.specs.Creating.{VolumeFailed}
-use Rattle.engine_core.proofs.NameLemmas.{key-insert, in-insert, refused_back, refused_failed, removed_others, rose_later}
+use Rattle.engine_core.proofs.NameLemmas.{key-insert, in-insert, refused_back, refused_failed, removed_others}
 use Rattle.engine_core.proofs.creating.make_file.Goals as goal
 
 pub returns-in-Ok-only_file-clause-makes : goal.returns-in-Ok-only_file-clause-makes
@@ -27,13 +26,13 @@ pub returns-in-Ok-create_pages-clause-refuses : goal.returns-in-Ok-create_pages-
 returns-in-Ok-create_pages-clause-refuses g c =
     let disk = disk_of g.V.Volume.tells g.V.Volume.folder g.V.Volume.out g.V.Volume.failures g.V.Volume.file_failures in
     refused_back c.args.path.now (disk c.args.volume.now) (disk c.create_pages.new.self) (disk c.give_back.new.volume) c.give_back.result c.create_pages.ensures.tells c.requires.fresh (λ told. (c.in-Ok-create_pages.ensures.folder told).1)
-      c.in-Ok-create_pages.ensures.out c.requires.unused c.create_pages.ensures.cause.later (let a = c.create_pages.ensures.file_failures in omega (arith, a)) c.give_back.ensures
+    c.in-Ok-create_pages.ensures.out c.requires.unused c.create_pages.ensures.cause.later (let a = c.create_pages.ensures.file_failures in omega (arith, a)) c.give_back.ensures
 
 pub returns-in-Err-Failed-clause-refuses : goal.returns-in-Err-Failed-clause-refuses
 returns-in-Err-Failed-clause-refuses g c =
     let disk = disk_of g.V.Volume.tells g.V.Volume.folder g.V.Volume.out g.V.Volume.failures g.V.Volume.file_failures in
     refused_failed c.args.path.now (disk c.args.volume.now) (disk c.create_pages.new.self) (disk c.remove.new.self) c.refused-in-Err-Failed.result c.refused-in-Err-Failed.ensures c.create_pages.ensures.tells c.remove.ensures.tells
-      (λ told. rw c.in-Err-Failed.field-0-is at (c.in-Err-Failed.ensures.folder told))
-      (λ told q f. removed_others c.remove.result c.args.path.now (g.V.Volume.folder c.create_pages.new.self) (g.V.Volume.folder c.remove.new.self) (c.remove.ensures.removed told) q f)
-      c.in-Err-Failed.ensures.out c.remove.ensures.out (c.in-Err-Failed.ensures.cause.failed (ap Err c.in-Err-Failed.field-0-is)) c.create_pages.ensures.cause.later c.remove.ensures.cause.later
-      (let a = c.create_pages.ensures.file_failures in omega (arith, a)) (let a = c.remove.ensures.file_failures in omega (arith, a))
+    (λ told. rw c.in-Err-Failed.field-0-is at (c.in-Err-Failed.ensures.folder told))
+    (λ told q f. removed_others c.remove.result c.args.path.now (g.V.Volume.folder c.create_pages.new.self) (g.V.Volume.folder c.remove.new.self) (c.remove.ensures.removed told) q f)
+    c.in-Err-Failed.ensures.out c.remove.ensures.out (c.in-Err-Failed.ensures.cause.failed (ap Err c.in-Err-Failed.field-0-is)) c.create_pages.ensures.cause.later c.remove.ensures.cause.later
+    (let a = c.create_pages.ensures.file_failures in omega (arith, a)) (let a = c.remove.ensures.file_failures in omega (arith, a))
