@@ -9,3 +9,4 @@ pub mod Seeing
 pub mod Deciding
 pub mod Disks
 pub mod Opened
+pub mod Closing
