@@ -11,3 +11,4 @@ mod Decisions
 mod Choices
 mod AnswerLemmas
 mod FreshLemmas
+mod CloseLemmas
