@@ -117,12 +117,19 @@ out_still : (b c : Bool) → c ≡ false → (not b && c) ≡ false
 out_still true c h = refl
 out_still false c h = h
 
+-- the first snapshot's file is one of those that are out
+module _ (w : Shown) (single : (s : SnapNo) → IsOpen w s → length (snap_at (catalog w) s).files ≡ 1) (some : IsOpen w first) where
+  first_names : sparse_names w ≡ file_of w first ∷ flat_map (λ (s : Snap). s.files) (drop 1 (catalog w).snaps)
+  first_names =
+      ap (flat_map (λ (s : Snap). s.files)) (drop-cons (catalog w).snaps 0 no_snap some)
+      ∙ ap (λ (names : List (List ℕ)). names ++ flat_map (λ (s : Snap). s.files) (drop 1 (catalog w).snaps)) (alone_name (snap_at (catalog w) first).files (single first some))
+
+  pub first_out : (disk : Disk) → ((name : List ℕ) → finset.contains disk.out name ≡ list_any (bytes_eq name) (sparse_names w)) → finset.contains disk.out (file_of w first) ≡ true
+  first_out disk out = out (file_of w first) ∙ ap (list_any (bytes_eq (file_of w first))) first_names ∙ ap (λ b. b || list_any (bytes_eq (file_of w first)) (flat_map (λ (s : Snap). s.files) (drop 1 (catalog w).snaps))) (same_name (file_of w first))
+
 -- the first snapshot that is left goes, and its file is put back
 module _ (v w w' : Shown) (start now now' : Disk) (end end' : CloseEnd) (handed : Handed v w start now end) (some : IsOpen w first) (gone : catalog w' ≡ without (catalog w) first) (same : counts w' ≡ counts w)
     (puts : PutsBack (file_of w first) (set_of w first).files.tells (bytes_of w first) (faults_of w first) now now' end') where
-  name : List ℕ
-  name = file_of w first
-
   snaps_left : (catalog w').snaps ≡ drop 1 (catalog w).snaps
   snaps_left = ap (λ (c : Catalog). c.snaps) gone
 
@@ -137,17 +144,14 @@ module _ (v w w' : Shown) (start now now' : Disk) (end end' : CloseEnd) (handed 
   longer = let l = ap length snaps_left ∙ length-drop 1 (catalog w).snaps in let s : 0 < length (catalog w).snaps = some in omega (arith, l, s)
 
   names_are : sparse_names w ≡ file_of w first ∷ sparse_names w'
-  names_are =
-      ap (flat_map (λ (s : Snap). s.files)) (drop-cons (catalog w).snaps 0 no_snap some)
-      ∙ ap (λ (names : List (List ℕ)). names ++ flat_map (λ (s : Snap). s.files) (drop 1 (catalog w).snaps)) (alone_name (snap_at (catalog w) first).files (handed.single first some))
-      ∙ ap (λ (ss : List Snap). file_of w first ∷ flat_map (λ (s : Snap). s.files) ss) (sym snaps_left)
+  names_are = first_names w handed.single some ∙ ap (λ (ss : List Snap). file_of w first ∷ flat_map (λ (s : Snap). s.files) ss) (sym snaps_left)
 
   distinct_names : (not (list_any (bytes_eq (file_of w first)) (sparse_names w')) && are_distinct (sparse_names w')) ≡ true
   distinct_names = ap are_distinct (sym names_are) ∙ handed.distinct
 
   -- which names are out
-  pub was_out : finset.contains now.out (file_of w first) ≡ true
-  was_out = handed.out (file_of w first) ∙ ap (list_any (bytes_eq (file_of w first))) names_are ∙ ap (λ b. b || list_any (bytes_eq (file_of w first)) (sparse_names w')) (same_name (file_of w first))
+  was_out : finset.contains now.out (file_of w first) ≡ true
+  was_out = first_out w handed.single some now handed.out
 
   out_now : (q : List ℕ) → finset.contains now'.out q ≡ (not (bytes_eq q (file_of w first)) && finset.contains now.out q)
   out_now q = ap (λ o. finset.contains o q) puts.out ∙ finset.contains-remove nat_list_cmp_total now.out (file_of w first) q ∙ ap (λ b. not b && finset.contains now.out q) (is_eq-slice_cmp q (file_of w first))
@@ -254,6 +258,13 @@ module _ (v w w' : Shown) (start now now' : Disk) (end end' : CloseEnd) (handed 
     aside = aside_now;
     ends = ends_now end end' handed.ends refl puts.named;
   }
+
+-- whether a snapshot is left
+pub some_left : (w : Shown) (cat : Catalog) (n : ℕ) → cat ≡ catalog w → n ≡ length cat.snaps → 0 < n → IsOpen w first
+some_left w cat n is counted lt = let l = ap (λ (x : Catalog). length x.snaps) is in omega (arith, l, counted, lt)
+
+pub none_left_by : (w : Shown) (cat : Catalog) (n : ℕ) → cat ≡ catalog w → n ≡ length cat.snaps → n ≤ 0 → ¬ IsOpen w first
+none_left_by w cat n is counted le some = let l = ap (λ (x : Catalog). length x.snaps) is in let s : 0 < length (catalog w).snaps = some in omega (arith, l, counted, le, s)
 
 -- all were put back
 module _ (v w : Shown) (start now : Disk) (end : CloseEnd) (handed : Handed v w start now end) (none : ¬ IsOpen w first) where
