@@ -1,30 +1,29 @@
 -- One sparse file after the other goes back to the volume.
-use Rattle.std.proofs.Common.{◌≡◌, ◌+◌, ◌-◌, ◌^◌, ◌<◌, ◌≤◌, ◌⊎◌, inl, inr, ℕ, suc, zero, min, Bool, true, false, ◌&&◌, ◌||◌, not, cond, IsTrue, List, [], ◌∷◌, ◌++◌, length, map, get_or, drop, refl, ap, sym, ◌∙◌, subst, arith}
-use Rattle.std.specs.Prelude.{Some, None, is_some, sum}
+use Rattle.std.proofs.Common.{◌≡◌, ◌+◌, ◌<◌, ◌≤◌, inl, inr, ℕ, Bool, true, false, ◌&&◌, ◌||◌, not, cond, IsTrue, List, [], ◌∷◌, ◌++◌, length, get_or, drop, refl, ap, sym, ◌∙◌, subst, arith}
+use Rattle.std.specs.Prelude.{Some, is_some}
 use Rattle.std.specs.List.{list_any, flat_map, concat}
 use Rattle.std.specs.Str.{bytes_eq}
-use Rattle.std.specs.Ordering.{nat_cmp, eq_by_cmp}
-use Rattle.std.specs.Cmp.Lexicographic.{slice_cmp, nat_list_cmp_total}
+use Rattle.std.specs.Cmp.Lexicographic.{nat_list_cmp_total}
 use Rattle.std.specs.FinMap as finite
 use Rattle.std.specs.FinSet as finset
-use Rattle.std.proofs.lemmas.Bool.{cases_Bool, cases_eq, cases_lt}
+use Rattle.std.proofs.lemmas.Bool.{cases_Bool, cases_eq}
 use Rattle.std.proofs.lemmas.List.{drop-drop, get_or-drop, length-drop, length-map}
 use Rattle.std.proofs.lemmas.Grind.{get_or_after_one}
 use Rattle.std.proofs.Math.Seq.{drop-cons}
 use Rattle.std.proofs.lemmas.Map.Text.{is_eq-slice_cmp}
 use Rattle.std.proofs.lemmas.Slice.Eq.{bytes_eq-Decides}
 use Rattle.page_base.specs.declared.numbers.SnapNo.{SnapNo}
-use Rattle.page_dev.specs.Faults.{Rose, added, total}
+use Rattle.page_dev.specs.Faults.{Rose, total}
 use Rattle.page_dev.specs.Files.{Files, files_of}
 use Rattle.page_dev.specs.PageFile.{FilePages}
-use Rattle.page_dev.specs.Volume.{Folder, Lies, Out}
+use Rattle.page_dev.specs.Volume.{Folder, Lies}
 use Rattle.plain_model.specs.Sound.{are_distinct}
-use Rattle.snap_pages.specs.Sparse.{Sparse, faults}
+use Rattle.snap_pages.specs.Sparse.{faults}
 use Rattle.snap_pages.specs.Catalog.{Snap, Catalog, snap_at, no_snap, without}
 use Rattle.snap_pages.specs.Shown.{Shown, catalog, count, counts, IsOpen, set_of}
 use Rattle.engine_core.specs.declared.closing.CloseEnd.{CloseEnd}
 use Rattle.engine_core.specs.declared.closing.CloseEnd.TheVariants.{Done, Fault}
-use Rattle.engine_core.specs.Closing.{first, file_of, bytes_of, IsFault, first_fault, Names, Returns, PutsBack, AreBack, IsFirstFault, Ends}
+use Rattle.engine_core.specs.Closing.{first, file_of, bytes_of, IsFault, first_fault, Names, PutsBack, AreBack, Ends}
 use Rattle.engine_core.specs.Pushing.{faults_of}
 use Rattle.engine_core.specs.Safe.{Disk, sparse_names}
 
@@ -161,14 +160,14 @@ module _ (v w w' : Shown) (start now now' : Disk) (end end' : CloseEnd) (handed 
       out_now q
       ∙ ap (λ b. not (bytes_eq q (file_of w first)) && b) (handed.out q ∙ ap (list_any (bytes_eq q)) names_are)
       ∙ off (bytes_eq q (file_of w first)) (list_any (bytes_eq q) (sparse_names w')) (λ t.
-          ap (λ (n : List ℕ). list_any (bytes_eq n) (sparse_names w')) ((bytes_eq-Decides q (file_of w first)).0 t) ∙ apart_left (list_any (bytes_eq (file_of w first)) (sparse_names w')) (are_distinct (sparse_names w')) distinct_names)
+      ap (λ (n : List ℕ). list_any (bytes_eq n) (sparse_names w')) ((bytes_eq-Decides q (file_of w first)).0 t) ∙ apart_left (list_any (bytes_eq (file_of w first)) (sparse_names w')) (are_distinct (sparse_names w')) distinct_names)
 
   aside_now : (s : SnapNo) → IsOpen v s → s.0 < handed.done + 1 → finset.contains now'.out (file_of v s) ≡ false
   aside_now s there lt = out_now (file_of v s) ∙ elim (cases_eq s.0 handed.done) [
     | inl is ↦
-      let e : file_of v s ≡ file_of w first = ap (λ (x : Snap). get_or x.files 0 []) (here s is) in
-      let t : bytes_eq (file_of v s) (file_of w first) ≡ true = ap (λ (n : List ℕ). bytes_eq n (file_of w first)) e ∙ same_name (file_of w first) in
-      ap (λ b. not b && finset.contains now.out (file_of v s)) t
+        let e : file_of v s ≡ file_of w first = ap (λ (x : Snap). get_or x.files 0 []) (here s is) in
+        let t : bytes_eq (file_of v s) (file_of w first) ≡ true = ap (λ (n : List ℕ). bytes_eq n (file_of w first)) e ∙ same_name (file_of w first) in
+        ap (λ b. not b && finset.contains now.out (file_of v s)) t
     | inr other ↦ out_still (bytes_eq (file_of v s) (file_of w first)) (finset.contains now.out (file_of v s)) (handed.aside s there (omega (arith, lt, other)))
   ]
 
@@ -180,8 +179,8 @@ module _ (v w w' : Shown) (start now now' : Disk) (end end' : CloseEnd) (handed 
     keys : (q : List ℕ) → finite.contains_key now'.folder q ≡ finite.contains_key now.folder q
     keys q = elim (cases_Bool (bytes_eq q (file_of w first))) [
       | inl t ↦
-        ap is_some (placed q ∙ ap (λ b. cond b (Some (Lies (puts.folder told).left)) (finite.get now.folder q)) t)
-        ∙ sym (ap (finite.contains_key now.folder) ((bytes_eq-Decides q (file_of w first)).0 t) ∙ ap is_some (puts.folder told).had)
+          ap is_some (placed q ∙ ap (λ b. cond b (Some (Lies (puts.folder told).left)) (finite.get now.folder q)) t)
+          ∙ sym (ap (finite.contains_key now.folder) ((bytes_eq-Decides q (file_of w first)).0 t) ∙ ap is_some (puts.folder told).had)
       | inr f ↦ ap is_some (placed q ∙ ap (λ b. cond b (Some (Lies (puts.folder told).left)) (finite.get now.folder q)) f)
     ]
 
@@ -202,13 +201,13 @@ module _ (v w w' : Shown) (start now now' : Disk) (end end' : CloseEnd) (handed 
   back_more : end' ≡ Done → AreBack v handed.done now → AreBack v (handed.done + 1) now'
   back_more done back s there lt told tells = elim (cases_eq s.0 handed.done) [
     | inl is ↦
-      let t = told_before told in
-      let e : file_of v s ≡ file_of w first = ap (λ (x : Snap). get_or x.files 0 []) (here s is) in
-      let b : bytes_of v s ≡ bytes_of w first = ap (λ (x : Snap). concat (get_or x.set.files.content 0 [])) (here s is) in
-      let it : IsTrue (set_of w first).files.tells = subst (λ (x : Snap). IsTrue x.set.files.tells) (here s is) tells in
-      ap (finite.get now'.folder) e ∙ placed t (file_of w first)
-      ∙ ap (λ b. cond b (Some (Lies (puts.folder t).left)) (finite.get now.folder (file_of w first))) (same_name (file_of w first))
-      ∙ ap (λ (x : List ℕ). Some (Lies x)) ((puts.folder t).ok it done ∙ sym b)
+        let t = told_before told in
+        let e : file_of v s ≡ file_of w first = ap (λ (x : Snap). get_or x.files 0 []) (here s is) in
+        let b : bytes_of v s ≡ bytes_of w first = ap (λ (x : Snap). concat (get_or x.set.files.content 0 [])) (here s is) in
+        let it : IsTrue (set_of w first).files.tells = subst (λ (x : Snap). IsTrue x.set.files.tells) (here s is) tells in
+        ap (finite.get now'.folder) e ∙ placed t (file_of w first)
+        ∙ ap (λ b. cond b (Some (Lies (puts.folder t).left)) (finite.get now.folder (file_of w first))) (same_name (file_of w first))
+        ∙ ap (λ (x : List ℕ). Some (Lies x)) ((puts.folder t).ok it done ∙ sym b)
     | inr other ↦ back_still handed.done (omega arith) back s there (omega (arith, lt, other)) told tells
   ]
 
@@ -250,8 +249,8 @@ module _ (v w w' : Shown) (start now now' : Disk) (end end' : CloseEnd) (handed 
     fault = faulty end end' (λ fault. let a = handed.fault fault in let b = puts.later in omega (arith, a, b)) (λ fault. let a = puts.fault fault in let b = handed.later in omega (arith, a, b));
     blame = λ s there lt faulted. elim (cases_eq s.0 handed.done) [
       | inl is ↦
-        let f : faults_of v s ≡ faults_of w first = ap (λ (x : Snap). faults x.set) (here s is) in
-        let a = handed.file_later in let b = puts.counted in omega (arith, a, b, f, faulted)
+          let f : faults_of v s ≡ faults_of w first = ap (λ (x : Snap). faults x.set) (here s is) in
+          let a = handed.file_later in let b = puts.counted in omega (arith, a, b, f, faulted)
       | inr other ↦ let a = handed.blame s there (omega (arith, lt, other)) faulted in let b = puts.counted in omega (arith, a, b)
     ];
     folder = λ q told. keys (handed.tells ∙ told) q ∙ handed.folder q told;

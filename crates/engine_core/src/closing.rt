@@ -1,9 +1,8 @@
 //! How the sparse files come back to the volume at the end of a run: one by one, whatever became of the earlier ones.
 
-ghost use Rattle.std.specs.Prelude.{◌≡◌, ◌∷◌, ◌<◌, ◌≤◌, [], ℕ, List, true, false, length, slice_index, IsTrue};
-ghost use Rattle.std.specs.List.{list_any};
+ghost use Rattle.std.specs.Prelude.{◌≡◌, ◌∷◌, ◌≤◌, [], ℕ, List, true, false, length, slice_index, IsTrue};
+ghost use Rattle.std.specs.List.{list_any, concat};
 ghost use Rattle.std.specs.Str.{bytes_eq};
-ghost use Rattle.std.specs.List.{concat};
 ghost use Rattle.std.specs.FinMap as finite;
 ghost use Rattle.std.specs.FinSet as finset;
 ghost use Rattle.page_base.specs.declared.numbers.SnapNo.{SnapNo};
@@ -11,14 +10,13 @@ ghost use Rattle.page_dev.specs.Faults.{Rose};
 ghost use Rattle.plain_model.specs.Sound.{are_distinct};
 ghost use Rattle.snap_pages.specs.Catalog.{snap_at, without};
 ghost use Rattle.snap_pages.specs.Shown.{IsOpen, catalog, count, counts, set_of};
-ghost use Rattle.snap_pages.specs.Sparse.{faults};
 ghost use Rattle.engine_core.specs.Closing.{Ends, IsFault, PutsBack, bytes_of, file_of, first, first_fault};
 ghost use Rattle.engine_core.specs.Disks.{disk_of};
 ghost use Rattle.engine_core.specs.Pushing.{faults_of};
 ghost use Rattle.engine_core.specs.Safe.{sparse_names};
 
 use page_base::{FileName, SnapNo};
-use page_dev::{PageFile, Volume};
+use page_dev::Volume;
 use snap_pages::SnapPages;
 
 /// How putting the files back ended.

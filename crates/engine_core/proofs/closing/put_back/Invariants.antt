@@ -1,4 +1,3 @@
-use Rattle.std.proofs.Common.{◌≡◌}
 use Rattle.snap_pages.specs.Shown.{count}
 use Rattle.engine_core.specs.Disks.{disk_of}
 use Rattle.engine_core.proofs.CloseLemmas.{Handed}
