@@ -18,3 +18,4 @@ mod LeaveLemmas
 mod Cutting
 mod CutSafe
 mod NameLemmas
+mod CloseLemmas

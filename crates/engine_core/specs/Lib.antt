@@ -11,3 +11,4 @@ pub mod Disks
 pub mod Opened
 pub mod Creating
 pub mod Steps
+pub mod Closing

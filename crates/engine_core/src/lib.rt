@@ -4,6 +4,7 @@
 mod answer;
 mod answering;
 mod choosing;
+mod closing;
 mod course;
 mod creating;
 mod database;
