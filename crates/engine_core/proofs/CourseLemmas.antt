@@ -7,8 +7,9 @@ use Rattle.std.proofs.lemmas.Option.{slice_get-get_or, get_or_from_slice_get}
 use Rattle.page_base.specs.declared.numbers.PageId.{PageId}
 use Rattle.page_base.specs.declared.numbers.SnapNo.{SnapNo}
 use Rattle.plain_model.specs.declared.stmt.Stmt.{Stmt}
-use Rattle.plain_model.specs.declared.stmt.Stmt.TheVariants.{Select, Broken}
+use Rattle.plain_model.specs.declared.stmt.Stmt.TheVariants.{Select, CreateSnap, Broken}
 use Rattle.plain_model.specs.declared.stmt.SelectStmt.{SelectStmt}
+use Rattle.plain_model.specs.declared.stmt.SnapFile.{SnapFile}
 use Rattle.plain_model.specs.declared.event.Event.{Event}
 use Rattle.plain_model.specs.declared.reply.Reply.{Reply}
 use Rattle.plain_model.specs.declared.reply.Reply.TheVariants.{Msg, Rows, Count}
@@ -27,6 +28,7 @@ use Rattle.table_pages.specs.Carried.{data_pages, Carries}
 use Rattle.engine_core.specs.declared.seat.Seat.{Seat}
 use Rattle.engine_core.specs.declared.answer.Answer.{Answer}
 use Rattle.engine_core.specs.declared.answer.Answer.TheVariants.{AtOnce, UnderAll, UnderTable}
+use Rattle.engine_core.specs.declared.course.Course.{Course}
 use Rattle.engine_core.specs.declared.decision.Decision.{Decision}
 use Rattle.engine_core.specs.declared.database.Database.TheVariants.{Snap}
 use Rattle.engine_core.specs.Databases.{Means, is_lost}
@@ -35,7 +37,7 @@ use Rattle.engine_core.specs.Pushing.{is_suspect, snaps_of, sound, name_of, Push
 use Rattle.engine_core.specs.Ready.{Seen, Comes, reply_of}
 use Rattle.engine_core.specs.Stepping.{tables_after, current_after, IsPlain}
 use Rattle.engine_core.specs.Seeing.{selected}
-use Rattle.engine_core.specs.Deciding.{AreApart, Setting, IsDecision, IsStill, IsSeeing}
+use Rattle.engine_core.specs.Deciding.{AreApart, Setting, IsDecision, IsStill, IsSeeing, IsCut, IsCourse}
 use Rattle.engine_core.specs.Safe.{Run, Disk, state, seen_by, seat_at, no_seat, script_at, AreInts, AreTables, dues, Safe}
 use Rattle.engine_core.specs.Doing.{Does}
 use Rattle.engine_core.specs.Steps.{next_stmt, HasNext, Goes, Steps, Says}
@@ -80,6 +82,11 @@ lost_or_not Suspect = inl refl
 -- the seat that was read is the session's
 pub seat_read : (e : Run) → Safe e → (i : ℕ) → i < length e.scripts → (seat : Seat) → seat ≡ get_or e.seats i seat → seat ≡ seat_at e i
 seat_read e safe i lt seat is = is ∙ sym (get_or_from_slice_get e.seats i (get_or e.seats i seat) no_seat (slice_get-get_or e.seats i seat (let s = safe.sessions.seats in omega (arith, s, lt))))
+
+-- only CREATE DATABASE makes a snapshot
+pub cut_only : (stmt : Stmt) → IsCut stmt → ((snap : List ℕ) (files : List SnapFile) (of : List ℕ) → stmt ≡ CreateSnap snap files of → ⊥) → ⊥
+cut_only (CreateSnap snap files of) h not = not snap files of refl
+cut_only stmt h not = h
 
 module _ (e : Run) (safe : Safe e) (i : ℕ) (next : HasNext e i) where
   -- the session hasn't left
@@ -130,6 +137,15 @@ module _ (e : Run) (safe : Safe e) (i : ℕ) (next : HasNext e i) where
   pub own_stmt : (seat : Seat) (stmt : Stmt) → seat ≡ seat_at e i → slice_get (script_at e i) seat.said ≡ Some stmt → next_stmt e i ≡ stmt
   own_stmt seat stmt is there = ap (λ (s : Seat). get_or (script_at e i) s.said (Broken 0)) (sym is) ∙ get_or_from_slice_get (script_at e i) seat.said stmt (Broken 0) there
 
+  -- the seat behind a statement that leaves the current database
+  pub seat_next : (seat : Seat) → seat ≡ seat_at e i → ◌≡◌ {A = Seat} (record { current = (seat_at e i).current; said = (seat_at e i).said + 1; gone = false }) (record { current = seat.current; said = seat.said + 1; gone = seat.gone })
+  seat_next seat is = ap (λ (b : Bool). record { current = (seat_at e i).current; said = (seat_at e i).said + 1; gone = b }) (sym here) ∙ ap (λ (s : Seat). record { current = s.current; said = s.said + 1; gone = s.gone }) (sym is)
+
+  -- the course that was chosen is the next statement's
+  pub course_is : (seat : Seat) (stmt : Stmt) (course : Course) → seat ≡ seat_at e i → next_stmt e i ≡ stmt → IsCourse e.opening seat.current e.shown (seen_by (state e)) stmt course → IsCourse e.opening (seat_at e i).current e.shown (seen_by (state e)) (next_stmt e i) course
+  course_is seat stmt course seat_is stmt_is h =
+      subst (λ (x : Stmt). IsCourse e.opening (seat_at e i).current e.shown (seen_by (state e)) x course) (sym stmt_is) (subst (λ (s : Seat). IsCourse e.opening s.current e.shown (seen_by (state e)) stmt course) seat_is h)
+
   -- the session alone moved
   pub says_so : (old : Run) → e ≡ old → (disk : Disk) → disk.told ≡ e.disk.told → e.disk.failures ≤ disk.failures → e.disk.file_failures ≤ disk.file_failures → (v : Shown) (kept : Kept) (seat : Seat) → seat ≡ seat_at e i →
       Says old (record e { disk = disk; shown = v; seats = set e.seats i (record { current = seat.current; said = seat.said + 1; gone = seat.gone }); kept = kept }) i
@@ -137,6 +153,7 @@ module _ (e : Run) (safe : Safe e) (i : ℕ) (next : HasNext e i) where
       subst (λ (r : Run). Says r (record e { disk = disk; shown = v; seats = set e.seats i (record { current = seat.current; said = seat.said + 1; gone = seat.gone }); kept = kept }) i) is (record {
         current = seat.current;
         steps = record {
+          within = within;
           goes = record { opening = refl; scripts = refl; told = told; failures = failures; file_failures = file_failures };
           seats = ap (set e.seats i) (ap (λ (s : Seat). record { current = seat.current; said = s.said + 1; gone = seat.gone }) seat_is
             ∙ ap (λ (b : Bool). record { current = seat.current; said = (seat_at e i).said + 1; gone = b }) (ap (λ (s : Seat). s.gone) seat_is ∙ here));
