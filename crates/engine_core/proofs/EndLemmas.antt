@@ -1,16 +1,14 @@
 -- Where all sessions have left, all that they had to say is told.
-use Rattle.std.proofs.Common.{◌≡◌, ◌≢◌, ◌+◌, ◌<◌, ◌≤◌, ℕ, Bool, true, false, cond, List, [], ◌∷◌, ◌++◌, length, map, get_or, refl, ap, sym, ◌∙◌, subst, arith}
-use Rattle.std.proofs.Math.ListN.{set}
+use Rattle.std.proofs.Common.{◌≡◌, ◌<◌, ◌≤◌, ℕ, Bool, true, cond, List, [], ◌∷◌, ◌++◌, length, map, get_or, ap, ◌∙◌, arith}
 use Rattle.std.proofs.lemmas.List.{get_or-set_same, get_or-set_other}
 use Rattle.std.proofs.lemmas.List.Sums.{get_or-le-sum_by}
-use Rattle.std.specs.Prelude.{sum_by}
 use Rattle.std.specs.List.{range_with_len}
 use Rattle.plain_model.specs.declared.stmt.Stmt.{Stmt}
 use Rattle.plain_model.specs.Sound.{AreScripts}
 use Rattle.plain_model.specs.Complete.{Answered, Gone, Complete}
 use Rattle.engine_core.specs.declared.seat.Seat.{Seat}
-use Rattle.engine_core.specs.Safe.{Run, seat_at, no_seat, script_at, AreSeated, Safe}
-use Rattle.engine_core.specs.Steps.{HasNext, Goes, Steps, Says, AreOthersSame}
+use Rattle.engine_core.specs.Safe.{Run, seat_at, no_seat, AreSeated}
+use Rattle.engine_core.specs.Steps.{Goes, Steps, AreOthersSame}
 
 pub complete : (e : Run) → AreSeated e → ((i : ℕ) → i < length e.scripts → (seat_at e i).gone ≡ true) → Complete e.scripts e.kept.events
 complete e seated gone i lt =

@@ -14,7 +14,6 @@ ghost use Rattle.engine_core.specs.Deciding.{IsDecision, IsSeeing, IsCut};
 ghost use Rattle.plain_model.specs.State.{committed};
 ghost use Rattle.plain_model.specs.Tables.{Tables};
 ghost use Rattle.plain_model.specs.Sound.{is_sound};
-
 ghost use Rattle.std.specs.FinSet as finset;
 ghost use Rattle.page_base.specs.Pages.{blank};
 ghost use Rattle.snap_pages.specs.Shown.{img, counts, catalog};
@@ -71,21 +70,21 @@ impl<V: Volume> Model for Engine<V> {
     ghost coded = { Prim.hlevel (codes, finite.code, v.the_row.coded, e.the_row.coded, ev.the_row.coded) };
 
     ghost view = { λ a. record {
-        opening = new_source a.source a.file (names_of (V.folder a.opened.value));
-        scripts = a.scripts;
-        disk = disk_of V.tells V.folder V.out V.failures V.file_failures a.volume;
-        shown = a.pages;
-        seats = a.seats.items;
-        kept = a.ledger;
+      opening = new_source a.source a.file (names_of (V.folder a.opened.value));
+      scripts = a.scripts;
+      disk = disk_of V.tells V.folder V.out V.failures V.file_failures a.volume;
+      shown = a.pages;
+      seats = a.seats.items;
+      kept = a.ledger;
     } };
 
     ghost invariant = { λ a. Safe (record {
-        opening = new_source a.source a.file (names_of (V.folder a.opened.value));
-        scripts = a.scripts;
-        disk = disk_of V.tells V.folder V.out V.failures V.file_failures a.volume;
-        shown = a.pages;
-        seats = a.seats.items;
-        kept = a.ledger;
+      opening = new_source a.source a.file (names_of (V.folder a.opened.value));
+      scripts = a.scripts;
+      disk = disk_of V.tells V.folder V.out V.failures V.file_failures a.volume;
+      shown = a.pages;
+      seats = a.seats.items;
+      kept = a.ledger;
     }) };
 }
 
@@ -117,7 +116,11 @@ struct Parts<P: PageFile> {
 }
 
 // Blank pages, sessions at their beginning, and room for all events.
-fn make_parts<P: PageFile>(alloc: Global, pages: u32, scripts: &Scripts) -> Result<Parts<P>, NoMemory>
+fn make_parts<P: PageFile>(
+    alloc: Global,
+    pages: u32,
+    scripts: &Scripts,
+) -> Result<Parts<P>, NoMemory>
     ensures images { IfOk result (λ a. img a.pages ≡ (λ p. blank)) }
     ensures counts { IfOk result (λ a. counts a.pages ≡ pages ∷ []) }
     ensures catalog { IfOk result (λ a. catalog a.pages ≡ empty 1) }
@@ -201,7 +204,14 @@ impl<V: Volume> Engine<V> {
         ensures book { IfOk result (λ e. e.kept.events ≡ []) }
         ensures refused { IfErr result (λ r. r.volume ≡ volume) }
     {
-        let Ok(Parts { pages, seats, ledger }) = make_parts(alloc, pages, &scripts) else {
+        let Ok(
+            Parts {
+                pages,
+                seats,
+                ledger,
+            },
+        ) = make_parts(alloc, pages, &scripts)
+        else {
             return Err(OpenRefused { volume });
         };
         Ok(Engine {
@@ -241,7 +251,13 @@ impl<V: Volume> Engine<V> {
         let stmt = stmt_at(&self.scripts, place, seat.said);
         let current = current_after(seat.current, stmt, &decision.answer);
         let who = SessNo(place as u8 + 1);
-        carry_out(&mut self.pages, &mut self.ledger, who, seat.said + 1, decision);
+        carry_out(
+            &mut self.pages,
+            &mut self.ledger,
+            who,
+            seat.said + 1,
+            decision,
+        );
         self.seats[place] = Seat {
             current,
             said: seat.said + 1,

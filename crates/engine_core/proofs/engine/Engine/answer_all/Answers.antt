@@ -1,10 +1,8 @@
-use Rattle.std.proofs.Common.{◌≡◌, ◌+◌, ◌∙◌, ◌≤◌, ◌<◌, ℕ, List, [], length, get_or, sym, ap, refl, subst, arith}
+use Rattle.std.proofs.Common.{◌≡◌, ◌+◌, ◌∙◌, ◌≤◌, ◌<◌, List, [], length, get_or, sym, ap, subst, arith}
 use Rattle.plain_model.specs.declared.stmt.Stmt.{Stmt}
 use Rattle.engine_core.specs.declared.seat.Seat.{Seat}
 use Rattle.engine_core.specs.Safe.{Run, seat_at, script_at}
-use Rattle.engine_core.specs.Steps.{HasNext}
 use Rattle.std.proofs.lemmas.Option.{get_or_from_slice_get, slice_get_within}
-use Rattle.page_dev.specs.Volume.{Folder, Names}
 use Rattle.engine_core.specs.Opened.{names_of, new_source}
 use Rattle.engine_core.specs.Disks.{disk_of}
 use Rattle.engine_core.proofs.CourseLemmas.{seat_read}
@@ -23,8 +21,8 @@ pub statement-requires : goal.statement-requires
 statement-requires g c =
     let inv = c.loop.invariant in
     let len : length (script_at c.loop.self c.args.place) ≡ c.len-all.result =
-          ap (λ (ss : List (List Stmt)). length (get_or ss c.args.place [])) (inv.goes.scripts ∙ ap (λ (r : Run). r.scripts) (sym c.self.view_is))
-          ∙ ap (λ (ss : List Stmt). length ss) (get_or_from_slice_get c.self.inside.scripts c.args.place c.at.result.now [] c.at.ensures) ∙ sym c.len-all.ensures in
+    ap (λ (ss : List (List Stmt)). length (get_or ss c.args.place [])) (inv.goes.scripts ∙ ap (λ (r : Run). r.scripts) (sym c.self.view_is))
+    ∙ ap (λ (ss : List Stmt). length ss) (get_or_from_slice_get c.self.inside.scripts c.args.place c.at.result.now [] c.at.ensures) ∙ sym c.len-all.ensures in
     let s = inv.said in
     let t = c.loop-test.true in
     record { next = record { there = subst (λ (ss : List (List Stmt)). c.args.place < length ss) (sym inv.goes.scripts) c.requires.there; more = omega (arith, len, s, t) } }
@@ -44,8 +42,8 @@ pub returns-clause-all : goal.returns-clause-all
 returns-clause-all g c =
     let inv = c.loop.invariant in
     let len : length (script_at c.loop.self c.args.place) ≡ c.len-all.result =
-          ap (λ (ss : List (List Stmt)). length (get_or ss c.args.place [])) (inv.goes.scripts ∙ ap (λ (r : Run). r.scripts) (sym c.self.view_is))
-          ∙ ap (λ (ss : List Stmt). length ss) (get_or_from_slice_get c.self.inside.scripts c.args.place c.at.result.now [] c.at.ensures) ∙ sym c.len-all.ensures in
+    ap (λ (ss : List (List Stmt)). length (get_or ss c.args.place [])) (inv.goes.scripts ∙ ap (λ (r : Run). r.scripts) (sym c.self.view_is))
+    ∙ ap (λ (ss : List Stmt). length ss) (get_or_from_slice_get c.self.inside.scripts c.args.place c.at.result.now [] c.at.ensures) ∙ sym c.len-all.ensures in
     let e : Run = record {
       opening = new_source c.self.inside.source c.self.inside.file (names_of (g.V.Volume.folder c.self.inside.opened.value));
       scripts = c.self.inside.scripts;

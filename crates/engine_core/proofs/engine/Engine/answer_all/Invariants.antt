@@ -1,4 +1,4 @@
-use Rattle.std.proofs.Common.{◌≡◌, ◌<◌, length}
+use Rattle.std.proofs.Common.{◌≡◌}
 use Rattle.engine_core.specs.Safe.{seat_at}
 use Rattle.engine_core.specs.Steps.{Goes, AreOthersSame}
 use Rattle.engine_core.proofs.engine.Engine.answer_all.Given as goal
