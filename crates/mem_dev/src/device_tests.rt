@@ -86,6 +86,23 @@ fn make(volume: &mut MemVolume, name: &FileName, pages: u32) -> Result<(), Fail>
     Ok(())
 }
 
+const OF_ANOTHER_FILE: [(Call, bool); 2] = [(Call::Write(0, 9), false), (Call::Read(0, 9), false)];
+
+const OF_THE_FIRST_FILE: [(Call, bool); 3] = [
+    (Call::Write(0, 7), false),
+    (Call::Write(1, 8), true),
+    (Call::Read(1, 0), false),
+];
+
+const OF_THE_SECOND_FILE: [(Call, bool); 6] = [
+    (Call::Read(0, 0), true),
+    (Call::Write(0, 3), true),
+    (Call::Write(0, 4), false),
+    (Call::Read(0, 4), false),
+    (Call::Write(0, 5), true),
+    (Call::Read(0, 4), false),
+];
+
 // Each planned failure counts the reads and writes of all files of its name from its own planning on.
 #[tactic(auto, using(crate::proofs::CallerLemmas::none_is_out))]
 #[test]
@@ -98,47 +115,15 @@ fn planned_calls_of_a_file_fail(rt: HostRuntime) -> Result<(), Fail> {
     make(&mut volume, &b, 1)?;
     volume.fail(&a, 2)?;
     volume.fail(&a, 4)?;
-    visit(
-        &rt,
-        alloc,
-        &mut volume,
-        &b,
-        1,
-        &[(Call::Write(0, 9), false), (Call::Read(0, 9), false)],
-    )?;
-    visit(
-        &rt,
-        alloc,
-        &mut volume,
-        &a,
-        2,
-        &[
-            (Call::Write(0, 7), false),
-            (Call::Write(1, 8), true),
-            (Call::Read(1, 0), false),
-        ],
-    )?;
+    visit(&rt, alloc, &mut volume, &b, 1, &OF_ANOTHER_FILE)?;
+    visit(&rt, alloc, &mut volume, &a, 2, &OF_THE_FIRST_FILE)?;
     assert_eq!(rt; volume.file_faults(), 1);
     // one more call is left until the second failure; a third is planned from here on, and a fourth behind it
     volume.fail(&a, 2)?;
     volume.fail(&a, 5)?;
     volume.remove(&a)?;
     make(&mut volume, &a, 1)?;
-    visit(
-        &rt,
-        alloc,
-        &mut volume,
-        &a,
-        1,
-        &[
-            (Call::Read(0, 0), true),
-            (Call::Write(0, 3), true),
-            (Call::Write(0, 4), false),
-            (Call::Read(0, 4), false),
-            (Call::Write(0, 5), true),
-            (Call::Read(0, 4), false),
-        ],
-    )?;
+    visit(&rt, alloc, &mut volume, &a, 1, &OF_THE_SECOND_FILE)?;
     assert_eq!(rt; (volume.file_faults(), volume.faults()), (4, 0));
     Ok(())
 }
