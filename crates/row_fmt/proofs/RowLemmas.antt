@@ -203,6 +203,9 @@ IsRowOf-fits [] (v ∷ row) h = absurd h
 IsRowOf-fits (c ∷ columns) [] h = absurd h
 IsRowOf-fits (c ∷ columns) (v ∷ row) h = (h.0.0, IsRowOf-fits columns row h.1)
 
+pub fits_where_read : (columns : List Column) (bytes : List ℕ) (row : List Value) → IsRow columns bytes row → FitsColumns columns row
+fits_where_read columns bytes row r = IsRowOf-fits columns row r.fits
+
 -- a row that was spelled
 pub row_was_spelled : (columns : List Column) (bytes : List ℕ) (row : List Value) → IsRowOf columns row → bytes ≡ concat (bit_fields (null_bytes (length row)) (map is_null row)) ++ concat (flat_map value_field row) → IsRow columns bytes row
 row_was_spelled columns bytes row fits e = record {

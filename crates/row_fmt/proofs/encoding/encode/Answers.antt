@@ -13,5 +13,5 @@ returns c =
     subst (λ (cs : List Column). IsRowOf cs c.args.row.now) c.as_slice-3.ensures (subst (IsRowOf c.as_slice-3.result.now) c.as_slice-2.ensures c.in_ok-put_values.ensures.range) in
     row_was_spelled c.args.cols.now c.from.result c.args.row.now fits
     (c.from.ensures ∙ c.in_ok-put_values.ensures.bytes
-      ∙ (λ i. (c.in_ok-put_nulls.ensures ∙ ap (λ (bs : List ℕ). bs ++ concat (bit_fields (null_bytes (length c.as_slice.result.now)) (map is_null c.as_slice.result.now))) c.new-out.ensures.items) i ++ concat (flat_map value_field c.as_slice-2.result.now))
-      ∙ (λ i. concat (bit_fields (null_bytes (length (c.as_slice.ensures i))) (map is_null (c.as_slice.ensures i))) ++ concat (flat_map value_field (c.as_slice-2.ensures i))))
+    ∙ (λ i. (c.in_ok-put_nulls.ensures ∙ ap (λ (bs : List ℕ). bs ++ concat (bit_fields (null_bytes (length c.as_slice.result.now)) (map is_null c.as_slice.result.now))) c.new-out.ensures.items) i ++ concat (flat_map value_field c.as_slice-2.result.now))
+    ∙ (λ i. concat (bit_fields (null_bytes (length (c.as_slice.ensures i))) (map is_null (c.as_slice.ensures i))) ++ concat (flat_map value_field (c.as_slice-2.ensures i))))
