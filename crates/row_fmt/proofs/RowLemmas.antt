@@ -1,7 +1,7 @@
 -- A row is a format: which values are NULL, and then a field for each that isn't.
 use Rattle.std.proofs.Common.{◌↔◌, ◌≡◌, ◌≢◌, ℕ, suc, ◌+◌, ◌-◌, ◌*◌, ◌/◌, ◌<◌, ◌≤◌, Bool, true, false, IsTrue, List, [], ◌∷◌, ◌++◌, length, map, refl, sym, ap, subst, ◌∙◌, arith}
 use Rattle.std.specs.Prelude.{⊤, Result, Ok, Err}
-use Rattle.std.specs.List.{concat, flat_map}
+use Rattle.std.specs.List.{concat, flat_map, AllByRecursion}
 use Rattle.std.proofs.lemmas.List.{append-nil, length-map}
 use Rattle.std.proofs.lemmas.List.Folds.{concat-append}
 use Rattle.page_base.specs.declared.column.Column.{Column}
@@ -43,7 +43,7 @@ module _ {X : Type 0} (Fits Same : X → Type 0) (fields told : X → List (List
 
 -- ---- what stands in a column
 
-abbrev StandsIn : Column → Value → Type 0
+abbrev pub StandsIn : Column → Value → Type 0
 StandsIn column value = MayStand column value × InRange value
 
 stands : (column : Column) (v : Value) → IsCell column.kind v → StandsIn column v × (is_null v ≡ false)
@@ -81,8 +81,15 @@ IsFormat-cell false column h = alike (IsCell column.kind) (λ v. StandsIn column
 
 -- ---- what stands in all columns
 
+-- each value may stand in its column, and is one that a program can hold
+abbrev pub AreCells : List Column → List Value → Type 0
+AreCells [] [] = ⊤
+AreCells [] (v ∷ row) = ⊥
+AreCells (column ∷ columns) [] = ⊥
+AreCells (column ∷ columns) (v ∷ row) = StandsIn column v × AreCells columns row
+
 abbrev HasNulls : List Column → List Bool → List Value → Type 0
-HasNulls columns nulls row = IsRowOf columns row × (map is_null row ≡ nulls)
+HasNulls columns nulls row = AreCells columns row × (map is_null row ≡ nulls)
 
 abbrev first_of : List Value → Value
 first_of [] = Null
@@ -146,7 +153,7 @@ IsFormat-values (column ∷ columns) (null ∷ nulls) h =
 
 -- ---- a row
 
-allows_row : (columns : List Column) (row : List Value) → IsRowOf columns row → AllowsNulls columns (map is_null row)
+allows_row : (columns : List Column) (row : List Value) → AreCells columns row → AllowsNulls columns (map is_null row)
 allows_row [] [] h = tt
 allows_row [] (v ∷ row) h = absurd h
 allows_row (c ∷ columns) [] h = absurd h
@@ -158,7 +165,7 @@ allows_row (c ∷ columns) (v ∷ row) h = (here v h.0.0, allows_row columns row
     here (Big n) h = tt
     here (Text bytes) h = tt
 
-pub length-row : (columns : List Column) (row : List Value) → IsRowOf columns row → length row ≡ length columns
+pub length-row : (columns : List Column) (row : List Value) → AreCells columns row → length row ≡ length columns
 length-row columns row h = sym (length-map row is_null) ∙ length-allowed columns (map is_null row) (allows_row columns row h)
 
 pub length-fits : (columns : List Column) (row : List Value) → FitsColumns columns row → length row ≡ length columns
@@ -170,16 +177,37 @@ length-fits (c ∷ columns) (v ∷ row) h = ap suc (length-fits columns row h.1)
 pub enough_bytes : (n : ℕ) → n ≤ 8 * null_bytes n
 enough_bytes n = omega arith
 
-pub IsFormat-row : (columns : List Column) → IsFormat (IsRowOf columns) row_fields (row_at columns)
+IsFormat-cells : (columns : List Column) → IsFormat (AreCells columns) row_fields (row_at columns)
 unfolding row_at
-IsFormat-row columns =
+IsFormat-cells columns =
     let n : ℕ = null_bytes (length columns) in
-    format_of_sequence (AllowsNulls columns) (bit_fields n) (nulls_at n columns) (IsRowOf columns) row_fields (map is_null) (flat_map value_field) (λ nulls bytes. values_at columns nulls bytes) (record {
+    format_of_sequence (AllowsNulls columns) (bit_fields n) (nulls_at n columns) (AreCells columns) row_fields (map is_null) (flat_map value_field) (λ nulls bytes. values_at columns nulls bytes) (record {
       first = IsFormat-nulls n columns (enough_bytes (length columns));
       second = λ nulls fits. IsFormat-values columns nulls fits;
       fits = allows_row columns;
       are = λ row h. ap (λ (m : ℕ). bit_fields (null_bytes m) (map is_null row) ++ flat_map value_field row) (length-row columns row h);
     })
+
+-- the same row, its columns and its ranges told apart
+cells_row : (columns : List Column) (row : List Value) → AreCells columns row → FitsColumns columns row × AllByRecursion InRange row
+cells_row [] [] h = (tt, tt)
+cells_row [] (v ∷ row) h = absurd h
+cells_row (c ∷ columns) [] h = absurd h
+cells_row (c ∷ columns) (v ∷ row) h = let later = cells_row columns row h.1 in ((h.0.0, later.0), (h.0.1, later.1))
+
+row_cells : (columns : List Column) (row : List Value) → FitsColumns columns row → AllByRecursion InRange row → AreCells columns row
+row_cells [] [] fits range = tt
+row_cells [] (v ∷ row) fits range = absurd fits
+row_cells (c ∷ columns) [] fits range = absurd fits
+row_cells (c ∷ columns) (v ∷ row) fits range = ((fits.0, range.0), row_cells columns row fits.1 range.1)
+
+pub IsFormat-row : (columns : List Column) → IsFormat (IsRowOf columns) row_fields (row_at columns)
+IsFormat-row columns = alike (AreCells columns) (IsRowOf columns) row_fields row_fields (row_at columns) (record {
+  format = IsFormat-cells columns;
+  there = λ row h. let parts = cells_row columns row h in record { fits = parts.0; range = parts.1 };
+  back = λ row h. row_cells columns row h.fits h.range;
+  are = λ row h. refl;
+})
 
 -- ---- bytes that are one row, and bytes that are none
 
@@ -190,26 +218,16 @@ unfolded row = refl
 -- bytes that are a row are read as that row
 row_again : (columns : List Column) (bytes : List ℕ) (row : List Value) → IsRow columns bytes row → row_at columns bytes ≡ ok row []
 row_again columns bytes row r =
-    ap (row_at columns) (r.spelled ∙ unfolded row ∙ sym (append-nil (concat (row_fields row)))) ∙ (IsFormat-row columns).again row [] r.fits
+    ap (row_at columns) (r.spelled ∙ unfolded row ∙ sym (append-nil (concat (row_fields row)))) ∙ (IsFormat-row columns).again row [] r.of
 
 -- bytes are one row of these columns at most
 pub one_row : (columns : List Column) (bytes : List ℕ) (row other : List Value) → IsRow columns bytes row → IsRow columns bytes other → row ≡ other
 one_row columns bytes row other r o = (read_is row other [] [] (sym (row_again columns bytes row r) ∙ row_again columns bytes other o)).0
 
--- a row that fits, of values that a program can hold
-pub IsRowOf-fits : (columns : List Column) (row : List Value) → IsRowOf columns row → FitsColumns columns row
-IsRowOf-fits [] [] h = tt
-IsRowOf-fits [] (v ∷ row) h = absurd h
-IsRowOf-fits (c ∷ columns) [] h = absurd h
-IsRowOf-fits (c ∷ columns) (v ∷ row) h = (h.0.0, IsRowOf-fits columns row h.1)
-
-pub fits_where_read : (columns : List Column) (bytes : List ℕ) (row : List Value) → IsRow columns bytes row → FitsColumns columns row
-fits_where_read columns bytes row r = IsRowOf-fits columns row r.fits
-
 -- a row that was spelled
-pub row_was_spelled : (columns : List Column) (bytes : List ℕ) (row : List Value) → IsRowOf columns row → bytes ≡ concat (bit_fields (null_bytes (length row)) (map is_null row)) ++ concat (flat_map value_field row) → IsRow columns bytes row
-row_was_spelled columns bytes row fits e = record {
-  fits = fits;
+pub row_was_spelled : (columns : List Column) (bytes : List ℕ) (row : List Value) → FitsColumns columns row → AllByRecursion InRange row → bytes ≡ concat (bit_fields (null_bytes (length row)) (map is_null row)) ++ concat (flat_map value_field row) → IsRow columns bytes row
+row_was_spelled columns bytes row fits range e = record {
+  of = record { fits = fits; range = range };
   spelled = e ∙ sym (concat-append (bit_fields (null_bytes (length row)) (map is_null row)) (flat_map value_field row)) ∙ sym (unfolded row);
 }
 
@@ -217,7 +235,7 @@ module _ (columns : List Column) (bytes : List ℕ) (h : IsBytes bytes) where
   pub row_was_read : (row : List Value) (rest : List ℕ) → row_at columns bytes ≡ Ok (row, rest) → rest ≡ [] → IsRow columns bytes row
   row_was_read row rest e empty =
       let t = (IsFormat-row columns).takes bytes row rest h e in
-      record { fits = t.0; spelled = t.1 ∙ ap (λ (bs : List ℕ). concat (row_fields row) ++ bs) empty ∙ append-nil (concat (row_fields row)) ∙ sym (unfolded row) }
+      record { of = t.0; spelled = t.1 ∙ ap (λ (bs : List ℕ). concat (row_fields row) ++ bs) empty ∙ append-nil (concat (row_fields row)) ∙ sym (unfolded row) }
 
   pub only_one : (row other : List Value) (rest : List ℕ) → row_at columns bytes ≡ Ok (row, rest) → IsRow columns bytes other → row ≡ other
   only_one row other rest e r = (read_is row other rest [] (sym e ∙ row_again columns bytes other r)).0
@@ -233,7 +251,7 @@ module _ (columns : List Column) (bytes : List ℕ) (h : IsBytes bytes) where
 
   -- bytes with a fault are no row
   pub no_row_there : (at : ℕ) → IsFault (IsRowOf columns) row_fields bytes at → (row : List Value) → IsRow columns bytes row → ⊥
-  no_row_there at f row r = f.none row r.fits (r.spelled ∙ unfolded row)
+  no_row_there at f row r = f.none row r.of (r.spelled ∙ unfolded row)
 
 -- whether the reader has come to its end
 pub ended : {P : Type 0} (r : Bool) → (IsTrue r ↔ P) → r ≡ true → P

@@ -1,12 +1,12 @@
 -- One more byte for NULLs, and one more value, are written.
 use Rattle.std.proofs.Common.{◌≡◌, ℕ, zero, suc, ◌+◌, ◌*◌, ◌<◌, ◌≤◌, Bool, List, [], ◌∷◌, ◌++◌, length, map, take, drop, get_or, refl, sym, ap, subst, ◌∙◌, arith, append_assoc, add-one}
-use Rattle.std.specs.List.{concat, flat_map}
+use Rattle.std.specs.List.{concat, flat_map, AllByRecursion}
 use Rattle.std.proofs.lemmas.List.{append-nil, drop-drop, take-map, drop-map, take_more}
 use Rattle.std.proofs.lemmas.List.Folds.{concat-append}
 use Rattle.std.proofs.lemmas.List.Concat.{flat_map-append}
 use Rattle.page_base.specs.declared.column.Column.{Column}
 use Rattle.page_base.specs.declared.value.Value.{Value}
-use Rattle.row_fmt.specs.Rows.{MayStand, FitsColumns, InRange, IsRowOf, is_null, bits_number, bit_fields, value_field}
+use Rattle.row_fmt.specs.Rows.{MayStand, FitsColumns, InRange, is_null, bits_number, bit_fields, value_field}
 
 bits_further : (i : ℕ) (bits : List Bool) → drop (8 * i) (drop 8 bits) ≡ drop (8 * suc i) bits
 bits_further i bits = let sum : 8 + 8 * i ≡ 8 * suc i = omega arith in drop-drop (8 * i) 8 bits ∙ ap (λ (k : ℕ). drop k bits) sum
@@ -38,21 +38,18 @@ fits_at (c ∷ columns) [] i column v h lt is v_is = absurd h
 fits_at (c ∷ columns) (w ∷ row) zero column v h lt is v_is = let here : MayStand column w = subst (λ (d : Column). MayStand d w) (sym is) h.0 in subst (MayStand column) (sym v_is) here
 fits_at (c ∷ columns) (w ∷ row) (suc i) column v h lt is v_is = fits_at columns row i column v h.1 (omega arith) is v_is
 
-more_of_row : (columns : List Column) (row : List Value) (column : Column) (v : Value) → IsRowOf columns row → MayStand column v → InRange v → IsRowOf (columns ++ column ∷ []) (row ++ v ∷ [])
-more_of_row [] [] column v h may range = ((may, range), tt)
-more_of_row [] (w ∷ row) column v h may range = absurd h
-more_of_row (c ∷ columns) [] column v h may range = absurd h
-more_of_row (c ∷ columns) (w ∷ row) column v h may range = (h.0, more_of_row columns row column v h.1 may range)
+more_in_range : (row : List Value) (v : Value) → AllByRecursion InRange row → InRange v → AllByRecursion InRange (row ++ v ∷ [])
+more_in_range [] v h range = (range, tt)
+more_in_range (w ∷ row) v h range = (h.0, more_in_range row v h.1 range)
 
-pub value_written : (columns : List Column) (row : List Value) (i : ℕ) (column : Column) (v : Value) (before old new : List ℕ) → i < length columns → i < length row → column ≡ get_or columns i column → v ≡ get_or row i v →
-    old ≡ before ++ concat (flat_map value_field (take i row)) → IsRowOf (take i columns) (take i row) → new ≡ old ++ concat (value_field v) → MayStand column v → InRange v
-    → (new ≡ before ++ concat (flat_map value_field (take (i + 1) row))) × IsRowOf (take (i + 1) columns) (take (i + 1) row)
-value_written columns row i column v before old new lt lt_row is v_is written so_far now may range =
+pub value_written : (row : List Value) (i : ℕ) (v : Value) (before old new : List ℕ) → i < length row → v ≡ get_or row i v →
+    old ≡ before ++ concat (flat_map value_field (take i row)) → AllByRecursion InRange (take i row) → new ≡ old ++ concat (value_field v) → InRange v
+    → (new ≡ before ++ concat (flat_map value_field (take (i + 1) row))) × AllByRecursion InRange (take (i + 1) row)
+value_written row i v before old new lt_row v_is written so_far now range =
     let longer : take (i + 1) row ≡ take i row ++ v ∷ [] = take_more row i v lt_row ∙ ap (λ (x : Value). take i row ++ x ∷ []) (sym v_is) in
-    let more : take (i + 1) columns ≡ take i columns ++ column ∷ [] = take_more columns i column lt ∙ ap (λ (x : Column). take i columns ++ x ∷ []) (sym is) in
     let fields : flat_map value_field (take (i + 1) row) ≡ flat_map value_field (take i row) ++ value_field v =
     ap (flat_map value_field) longer ∙ flat_map-append value_field (take i row) (v ∷ []) ∙ ap (λ (fs : List (List ℕ)). flat_map value_field (take i row) ++ fs) (append-nil (value_field v)) in (
       now ∙ ap (λ (bs : List ℕ). bs ++ concat (value_field v)) written ∙ append_assoc before (concat (flat_map value_field (take i row))) (concat (value_field v))
           ∙ ap (λ (bs : List ℕ). before ++ bs) (sym (concat-append (flat_map value_field (take i row)) (value_field v)) ∙ ap concat (sym fields)),
-      subst (λ (cs : List Column). IsRowOf cs (take (i + 1) row)) (sym more) (subst (IsRowOf (take i columns ++ column ∷ [])) (sym longer) (more_of_row (take i columns) (take i row) column v so_far may range)),
+      subst (AllByRecursion InRange) (sym longer) (more_in_range (take i row) v so_far range),
     )

@@ -1,7 +1,7 @@
 -- Which rows some columns may hold, and the bytes of a row: its fields, one after the other.
 use Rattle.std.specs.Prelude.{◌≡◌, ⊤, ℕ, zero, suc, ◌+◌, ◌*◌, ◌/◌, ◌^◌, ◌<◌, ◌≤◌, ◌&&◌, Bool, true, false, IsTrue, nat_le, if◌then◌else◌, List, [], ◌∷◌, ◌++◌, length, take, drop, map, All, FitsSigned}
 use Rattle.std.specs.Int.{w32, w64, cast_unsigned}
-use Rattle.std.specs.List.{concat, flat_map}
+use Rattle.std.specs.List.{concat, flat_map, AllByRecursion}
 use Rattle.page_base.specs.declared.column.Column.{Column}
 use Rattle.page_base.specs.declared.column.ColType.{ColType}
 use Rattle.page_base.specs.declared.column.ColType.TheVariants as kinds
@@ -58,13 +58,12 @@ InRange (Int n) = FitsSigned w32 n
 InRange (Big n) = FitsSigned w64 n
 InRange (Text bytes) = length bytes < 2 ^ 16
 
--- such values in columns that may hold them
-abbrev pub IsRowOf : List Column → List Value → Type 0
-IsRowOf [] [] = ⊤
-IsRowOf [] (value ∷ row) = ⊥
-IsRowOf (column ∷ columns) [] = ⊥
-IsRowOf (column ∷ columns) (value ∷ row) = (MayStand column value × InRange value) × IsRowOf columns row
+-- a row of these columns, of values that a program can hold
+pub record IsRowOf (columns : List Column) (row : List Value) : Type 0 where
+  pub fits : FitsColumns columns row
+  pub range : AllByRecursion InRange row
 
+-- whether a value is NULL
 abbrev pub is_null : Value → Bool
 is_null Null = true
 is_null (Int n) = false
@@ -96,10 +95,11 @@ value_field (Text bytes) = (number 2 (length bytes) ++ bytes) ∷ []
 abbrev pub row_fields : List Value → List (List ℕ)
 row_fields row = bit_fields (null_bytes (length row)) (map is_null row) ++ flat_map value_field row
 
+-- the fields, one after the other
 unfoldable pub row_bytes : List Value → List ℕ
 row_bytes row = concat (row_fields row)
 
 -- the bytes are this row of these columns
 pub record IsRow (columns : List Column) (bytes : List ℕ) (row : List Value) : Type 0 where
-  pub fits : IsRowOf columns row
+  pub of : IsRowOf columns row
   pub spelled : bytes ≡ row_bytes row

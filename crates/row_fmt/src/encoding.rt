@@ -1,9 +1,9 @@
 //! The bytes of a row, field by field.
 
 ghost use Rattle.std.specs.Prelude.{◌≡◌, ◌++◌, ◌≤◌, ◌<◌, ◌^◌, length, map, take, IfOk, OnOk};
-ghost use Rattle.std.specs.List.{concat, flat_map};
+ghost use Rattle.std.specs.List.{concat, flat_map, AllByRecursion};
 ghost use Rattle.row_fmt.specs.Numbers.{number};
-ghost use Rattle.row_fmt.specs.Rows.{MayStand, FitsColumns, InRange, longest, IsRowOf, is_null, bits_number, bit_fields, null_bytes, value_field, IsRow};
+ghost use Rattle.row_fmt.specs.Rows.{MayStand, FitsColumns, InRange, longest, is_null, bits_number, bit_fields, null_bytes, value_field, IsRow};
 
 use crate::sizes::null_bytes;
 use byteorder::{ByteOrder, LittleEndian};
@@ -110,7 +110,7 @@ fn put_value(out: &mut Vec<u8>, value: &Value, column: &Column) -> Result<(), No
 fn put_values(out: &mut Vec<u8>, row: &[Value], columns: &[Column]) -> Result<(), NoMemory>
     requires { FitsColumns columns.now row.now }
     ensures bytes { OnOk result (out.new.items ≡ out.old.items ++ concat (flat_map value_field row.now)) }
-    ensures range { OnOk result (IsRowOf columns.now row.now) }
+    ensures range { OnOk result (AllByRecursion InRange row.now) }
 {
     for (i, column) in columns.iter().enumerate() {
         put_value(out, &row[i], column)?;

@@ -52,7 +52,6 @@ fn round_trip(alloc: Global, row: &Row, columns: &Columns) -> Result<Row, RowRef
 }
 
 // The row of the bytes, and its bytes once more.
-#[tactic(auto, using(crate::proofs::RowLemmas::fits_where_read))]
 fn respelled(alloc: Global, bytes: &[u8], columns: &Columns) -> Result<(Row, Bytes), Fail>
     requires { length bytes.now < 100 }
 {
