@@ -1,14 +1,13 @@
 -- The bits of a byte, which columns they allow to be NULL, and the bytes that tell it of all columns.
-use Rattle.std.proofs.Common.{◌≡◌, ℕ, zero, suc, ◌+◌, ◌-◌, ◌*◌, ◌/◌, ◌%◌, ◌^◌, ◌<◌, ◌≤◌, ◌==◌, ◌&&◌, ◌||◌, inl, inr, Bool, true, false, cond, IsTrue, List, [], ◌∷◌, ◌++◌, length, take, drop, get_or, refl, sym, ap, subst, ◌∙◌, arith, eqb-true, eq-eqb, lit<, pow_mono}
+use Rattle.std.proofs.Common.{◌≡◌, ℕ, zero, suc, ◌+◌, ◌*◌, ◌/◌, ◌%◌, ◌^◌, ◌<◌, ◌≤◌, ◌==◌, ◌&&◌, ◌||◌, Bool, true, false, cond, IsTrue, List, [], ◌∷◌, ◌++◌, length, take, drop, refl, sym, ap, subst, ◌∙◌, arith, eqb-true, lit<, pow_mono}
 use Rattle.std.specs.Prelude.{⊤, Ok, Err}
-use Rattle.std.specs.List.{concat}
 use Rattle.std.proofs.Math.Nat.{pow-succ'}
-use Rattle.std.proofs.lemmas.Bool.{and_parts, cases_Bool}
+use Rattle.std.proofs.lemmas.Bool.{and_parts}
 use Rattle.std.proofs.lemmas.Bool.Decides.{nat_tests}
-use Rattle.std.proofs.lemmas.List.{append-nil, take-append-drop, length-append, length-take, length-drop}
+use Rattle.std.proofs.lemmas.List.{append-nil, take-append-drop, length-drop}
 use Rattle.page_base.specs.declared.column.Column.{Column}
-use Rattle.page_base.specs.Reading.{Read, ◌>>=◌}
-use Rattle.page_base.proofs.FormatLemmas.{IsBytes, IsField, IsFormat, format_of_field, format_of_sequence, format_of_end, ok, read_is}
+use Rattle.page_base.specs.Reading.{◌>>=◌}
+use Rattle.page_base.proofs.FormatLemmas.{IsField, IsFormat, format_of_field, format_of_sequence, format_of_end, ok, read_is}
 use Rattle.row_fmt.specs.Rows.{bits_number, bit_fields}
 use Rattle.row_fmt.specs.Reading.{may_be_null, bits_of, group_at, nulls_at}
 

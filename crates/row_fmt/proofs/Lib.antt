@@ -5,3 +5,4 @@ pub mod RowLemmas
 pub mod NullLemmas
 pub mod SizeLemmas
 pub mod WritingLemmas
+pub mod KeyLemmas

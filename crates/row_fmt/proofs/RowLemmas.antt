@@ -1,21 +1,17 @@
 -- A row is a format: which values are NULL, and then a field for each that isn't.
-use Rattle.std.proofs.Common.{◌↔◌, ◌≡◌, ◌≢◌, ℕ, suc, ◌+◌, ◌-◌, ◌*◌, ◌/◌, ◌<◌, ◌≤◌, Bool, true, false, IsTrue, List, [], ◌∷◌, ◌++◌, length, map, refl, sym, ap, subst, ◌∙◌, arith}
-use Rattle.std.specs.Prelude.{⊤, Result, Ok, Err}
+use Rattle.std.proofs.Common.{◌↔◌, ◌≡◌, ◌≢◌, ℕ, suc, ◌-◌, ◌*◌, ◌≤◌, Bool, true, false, IsTrue, List, [], ◌∷◌, ◌++◌, length, map, refl, sym, ap, ◌∙◌, arith}
+use Rattle.std.specs.Prelude.{⊤, Ok, Err}
 use Rattle.std.specs.List.{concat, flat_map, AllByRecursion}
 use Rattle.std.proofs.lemmas.List.{append-nil, length-map}
 use Rattle.std.proofs.lemmas.List.Folds.{concat-append}
 use Rattle.page_base.specs.declared.column.Column.{Column}
-use Rattle.page_base.specs.declared.column.ColType.{ColType}
-use Rattle.page_base.specs.declared.column.ColType.TheVariants as kinds
 use Rattle.page_base.specs.declared.value.Value.{Value}
 use Rattle.page_base.specs.declared.value.Value.TheVariants.{Null, Int, Big, Text}
 use Rattle.page_base.specs.Places.{IsFault}
 use Rattle.page_base.specs.Reading.{Read, ◌>>=◌, left}
 use Rattle.page_base.proofs.FormatLemmas.{IsBytes, IsFormat, format_of_field, format_of_sequence, format_of_end, shrinks, fault_of_err, fault_of_rest, ok, read_is}
-use Rattle.row_fmt.specs.declared.refusal.RowRefusal.{RowRefusal}
-use Rattle.row_fmt.specs.Rows.{IsOfKind, MayStand, FitsColumns, InRange, IsRowOf, IsRow, is_null, bit_fields, null_bytes, value_field, row_fields, row_bytes}
+use Rattle.row_fmt.specs.Rows.{MayStand, FitsColumns, InRange, IsRowOf, IsRow, is_null, bit_fields, null_bytes, value_field, row_fields, row_bytes}
 use Rattle.row_fmt.specs.Reading.{cell_at, value_at, nulls_at, values_at, row_at}
-use Rattle.row_fmt.specs.Answers.{GivesRow}
 use Rattle.row_fmt.proofs.BitLemmas.{Allows, AllowsNulls, IsFormat-nulls, length-allowed}
 use Rattle.row_fmt.proofs.FieldLemmas.{IsCell, field_of, IsField-value}
 

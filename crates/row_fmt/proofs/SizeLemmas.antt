@@ -1,18 +1,18 @@
 -- How many bytes the fields of a row and of its key have.
-use Rattle.std.proofs.Common.{◌≡◌, ◌≢◌, ℕ, zero, suc, ◌+◌, ◌==◌, ◌<◌, ◌≤◌, Bool, true, false, cond, List, [], ◌∷◌, ◌++◌, length, map, take, drop, get_or, refl, sym, ap, ◌∙◌, arith, add-one}
+use Rattle.std.proofs.Common.{◌≡◌, ◌≢◌, ℕ, zero, suc, ◌+◌, ◌==◌, ◌<◌, Bool, true, false, cond, List, [], ◌∷◌, ◌++◌, length, map, take, drop, get_or, refl, sym, ap, ◌∙◌, arith, add-one}
 use Rattle.std.specs.Prelude.{nat_le, ℤ}
 use Rattle.std.specs.Int.{w32, w64, cast_unsigned}
 use Rattle.std.specs.List.{concat, flat_map}
 use Rattle.std.proofs.lemmas.Bool.Decides.{nat_tests}
-use Rattle.std.proofs.lemmas.List.{append-nil, length-append, take_more}
+use Rattle.std.proofs.lemmas.List.{length-append, take_more}
 use Rattle.std.proofs.lemmas.List.Folds.{concat-append}
 use Rattle.std.proofs.lemmas.List.Concat.{flat_map-append}
 use Rattle.page_base.specs.declared.column.Column.{Column}
 use Rattle.page_base.specs.declared.value.Value.{Value}
 use Rattle.page_base.specs.declared.value.Value.TheVariants.{Null, Int, Big, Text}
 use Rattle.row_fmt.specs.Numbers.{number}
-use Rattle.row_fmt.specs.Rows.{is_null, bit_fields, null_bytes, value_field, row_fields, row_bytes}
-use Rattle.row_fmt.specs.Keys.{Part, placed, key_parts, key_values, key_bytes}
+use Rattle.row_fmt.specs.Rows.{is_null, bit_fields, null_bytes, value_field, row_bytes}
+use Rattle.row_fmt.specs.Keys.{Part, placed, key_parts, key_bytes}
 use Rattle.row_fmt.proofs.Numbers.{length-number}
 
 pub int_size : (z : ℤ) → length (concat (value_field (Int z))) ≡ 4
@@ -63,18 +63,18 @@ key_sum [] row = 0
 key_sum (column ∷ columns) [] = 0
 key_sum (column ∷ columns) (v ∷ row) = cond (column.key == 0) 0 (length (concat (value_field v))) + key_sum columns row
 
-abbrev parts_size : List Part → ℕ
-parts_size parts = values_size (map (λ (part : Part). part.1) parts)
+abbrev parts_size : List (Part Value) → ℕ
+parts_size parts = values_size (map (λ (part : Part Value). part.1) parts)
 
-placed_size : (part : Part) (parts : List Part) → parts_size (placed part parts) ≡ length (concat (value_field part.1)) + parts_size parts
+placed_size : (part : Part Value) (parts : List (Part Value)) → parts_size (placed part parts) ≡ length (concat (value_field part.1)) + parts_size parts
 placed_size part [] = values_size-cons part.1 []
 placed_size part (first ∷ parts) = chosen (placed_size part parts) (nat_le part.0 first.0)
   where
     chosen : parts_size (placed part parts) ≡ length (concat (value_field part.1)) + parts_size parts → (b : Bool) → parts_size (cond b (part ∷ first ∷ parts) (first ∷ placed part parts)) ≡ length (concat (value_field part.1)) + parts_size (first ∷ parts)
-    chosen later true = values_size-cons part.1 (map (λ (part : Part). part.1) (first ∷ parts))
+    chosen later true = values_size-cons part.1 (map (λ (part : Part Value). part.1) (first ∷ parts))
     chosen later false =
-        let here = values_size-cons first.1 (map (λ (part : Part). part.1) (placed part parts)) in
-        let whole = values_size-cons first.1 (map (λ (part : Part). part.1) parts) in
+        let here = values_size-cons first.1 (map (λ (part : Part Value). part.1) (placed part parts)) in
+        let whole = values_size-cons first.1 (map (λ (part : Part Value). part.1) parts) in
         omega (arith, here, whole, later)
 
 key_parts_size : (columns : List Column) (row : List Value) → parts_size (key_parts columns row) ≡ key_sum columns row

@@ -5,7 +5,7 @@ ghost use Rattle.std.specs.List.{concat, flat_map, AllByRecursion};
 ghost use Rattle.row_fmt.specs.Numbers.{number};
 ghost use Rattle.row_fmt.specs.Rows.{MayStand, FitsColumns, InRange, longest, is_null, bits_number, bit_fields, null_bytes, value_field, IsRow};
 
-use crate::sizes::null_bytes;
+use crate::sizes::{null_bytes, size};
 use byteorder::{ByteOrder, LittleEndian};
 use page_base::{Bytes, ColType, Column, Columns, NoMemory, Row, Value};
 use std::alloc::Global;
@@ -124,7 +124,7 @@ pub fn encode(alloc: Global, row: &Row, cols: &Columns) -> Result<Bytes, NoMemor
     requires { FitsColumns cols.now row.now }
     ensures { IfOk result (λ bytes. IsRow cols.now bytes row.now) }
 {
-    let mut out = Vec::new(alloc);
+    let mut out = Vec::with_capacity(alloc, size(row, cols) as usize)?;
     put_nulls(&mut out, row.as_slice())?;
     put_values(&mut out, row.as_slice(), cols.as_slice())?;
     Ok(Bytes::from(out))

@@ -1,13 +1,11 @@
 -- A row, a row with bytes behind it, and a wrong field.
-use Rattle.std.proofs.Common.{◌≡◌, ◌-◌, List, ℕ, length, sym, ap, subst, ◌∙◌, arith}
-use Rattle.std.specs.Prelude.{Ok, Err}
+use Rattle.std.proofs.Common.{◌≡◌, List, ℕ, sym, subst, ◌∙◌, arith}
+use Rattle.std.specs.Prelude.{Err}
 use Rattle.page_base.specs.declared.column.Column.{Column}
 use Rattle.page_base.specs.declared.value.Value.{Value}
-use Rattle.page_base.specs.Places.{IsFault}
 use Rattle.page_base.specs.Reading.{Read}
 use Rattle.page_base.proofs.FormatLemmas.{IsBytes, ok}
 use Rattle.row_fmt.specs.declared.reader.Stop.{Stop}
-use Rattle.row_fmt.specs.Rows.{IsRow, IsRowOf, row_fields}
 use Rattle.row_fmt.specs.Reading.{Fails, row_at}
 use Rattle.row_fmt.proofs.RowLemmas.{row_was_read, only_one, left_within, fault_in_row, fault_behind_row, no_row_there, ended, not_ended}
 use Rattle.row_fmt.proofs.decoding.decode.Goals as goal

@@ -1,8 +1,6 @@
 -- One more column is counted where it is in the key, and the last one.
-use Rattle.std.proofs.Common.{◌≡◌, ◌<◌, ◌≤◌, List, length, take, sym, ap, ◌∙◌, arith}
+use Rattle.std.proofs.Common.{◌≡◌, ◌<◌, ◌≤◌, length, take, sym, ap, ◌∙◌, arith}
 use Rattle.std.proofs.lemmas.List.{take_all}
-use Rattle.page_base.specs.declared.column.Column.{Column}
-use Rattle.page_base.specs.declared.value.Value.{Value}
 use Rattle.row_fmt.proofs.SizeLemmas.{key_sum, key_sum-counted, key_sum-skipped, key_size_is}
 use Rattle.row_fmt.proofs.sizes.key_size.Goals as goal
 use Rattle.row_fmt.proofs.sizes.key_size.Goals.{then-column-ne0, else-column-ne0}

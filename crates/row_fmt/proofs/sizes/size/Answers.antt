@@ -1,5 +1,5 @@
 -- One more value is counted, and the last one.
-use Rattle.std.proofs.Common.{◌≡◌, ap, ◌∙◌, arith}
+use Rattle.std.proofs.Common.{ap, ◌∙◌, arith}
 use Rattle.std.proofs.lemmas.List.{take_all}
 use Rattle.row_fmt.proofs.SizeLemmas.{values_size, values_size-more, row_size}
 use Rattle.row_fmt.proofs.sizes.size.Goals as goal

@@ -1,8 +1,7 @@
 -- One more byte for NULLs, a wrong one, and the last one.
-use Rattle.std.proofs.Common.{◌≡◌, ◌*◌, List, ℕ, length, take, drop, ap, sym, subst, ◌∙◌, arith}
+use Rattle.std.proofs.Common.{◌≡◌, ◌*◌, List, ℕ, length, take, ap, sym, subst, ◌∙◌, arith}
 use Rattle.std.proofs.lemmas.List.{length-take}
 use Rattle.std.proofs.lemmas.Result.{err_from_is_err_and}
-use Rattle.std.specs.Prelude.{Ok}
 use Rattle.page_base.specs.declared.column.Column.{Column}
 use Rattle.page_base.proofs.FormatLemmas.{ok}
 use Rattle.row_fmt.specs.Rows.{null_bytes}

@@ -1,5 +1,5 @@
 -- One more value, a wrong one, and the last one.
-use Rattle.std.proofs.Common.{◌≡◌, ◌<◌, ◌≤◌, ◌++◌, ◌∷◌, [], Bool, false, List, ℕ, ◌+◌, length, drop, get_or, ap, sym, subst, ◌∙◌, arith}
+use Rattle.std.proofs.Common.{◌≡◌, ◌<◌, ◌≤◌, Bool, false, List, ℕ, ◌+◌, length, drop, get_or, ap, sym, subst, ◌∙◌, arith}
 use Rattle.std.proofs.lemmas.Result.{err_from_is_err_and}
 use Rattle.page_base.specs.declared.value.Value.{Value}
 use Rattle.page_base.proofs.FormatLemmas.{ok}
