@@ -31,12 +31,6 @@ IsOfKind kinds.Int (Text bytes) = ⊥
 IsOfKind kinds.Big (Text bytes) = ⊥
 IsOfKind (kinds.Text max) (Text bytes) = IsText max bytes
 
--- the most bytes that a text of this type may have
-abbrev pub longest : ColType → ℕ
-longest kinds.Int = 0
-longest kinds.Big = 0
-longest (kinds.Text max) = max
-
 -- what may stand in a column: a value of its type, and NULL where the column may be NULL
 abbrev pub MayStand : Column → Value → Type 0
 MayStand column Null = IsTrue column.nullable

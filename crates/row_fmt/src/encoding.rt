@@ -3,7 +3,7 @@
 ghost use Rattle.std.specs.Prelude.{◌≡◌, ◌++◌, ◌≤◌, ◌<◌, ◌^◌, length, map, take, IfOk, OnOk};
 ghost use Rattle.std.specs.List.{concat, flat_map, AllByRecursion};
 ghost use Rattle.row_fmt.specs.Numbers.{number};
-ghost use Rattle.row_fmt.specs.Rows.{MayStand, FitsColumns, InRange, longest, is_null, bits_number, bit_fields, null_bytes, value_field, IsRow};
+ghost use Rattle.row_fmt.specs.Rows.{MayStand, FitsColumns, InRange, is_null, bits_number, bit_fields, null_bytes, value_field, IsRow};
 
 use crate::sizes::{null_bytes, size};
 use byteorder::{ByteOrder, LittleEndian};
@@ -69,26 +69,19 @@ fn put_big(out: &mut Vec<u8>, n: i64) -> Result<(), NoMemory>
     Ok(())
 }
 
+// Appends a text of at most so many bytes behind its length.
 #[tactic(auto, unfolding(crate::specs::Numbers::number))]
-fn put_text(out: &mut Vec<u8>, text: &[u8]) -> Result<(), NoMemory>
-    requires { length text.now < 2 ^ 16 }
-    ensures { OnOk result (out.new.items ≡ out.old.items ++ (number 2 (length text.now) ++ text.now)) }
+fn put_text(out: &mut Vec<u8>, text: &[u8], max: u16) -> Result<(), NoMemory>
+    requires { length text.now ≤ max }
+    ensures bytes { OnOk result (out.new.items ≡ out.old.items ++ (number 2 (length text.now) ++ text.now)) }
+    ensures range { length text.now < 2 ^ 16 }
 {
+    prove!(text.len() <= max as usize);
     let mut bytes = [0u8; 2];
     LittleEndian::write_u16(&mut bytes, text.len() as u16);
     out.extend_from_slice(&bytes)?;
     out.extend_from_slice(text)?;
     Ok(())
-}
-
-// The most bytes that a text of this column may have.
-fn longest(kind: ColType) -> u16
-    ensures { result ≡ longest kind }
-{
-    match kind {
-        ColType::Int | ColType::Big => 0,
-        ColType::Text { max } => max,
-    }
 }
 
 // Appends the field of a value that may stand in a column, where it has one.
@@ -97,12 +90,11 @@ fn put_value(out: &mut Vec<u8>, value: &Value, column: &Column) -> Result<(), No
     ensures bytes { OnOk result (out.new.items ≡ out.old.items ++ concat (value_field value.now)) }
     ensures range { OnOk result (InRange value.now) }
 {
-    let _longest = longest(column.kind);
-    match value {
-        Value::Null => Ok(()),
-        Value::Int(n) => put_int(out, *n),
-        Value::Big(n) => put_big(out, *n),
-        Value::Text(text) => put_text(out, text.as_slice()),
+    match (value, column.kind) {
+        (Value::Int(n), _) => put_int(out, *n),
+        (Value::Big(n), _) => put_big(out, *n),
+        (Value::Text(text), ColType::Text { max }) => put_text(out, text.as_slice(), max),
+        _ => Ok(()),
     }
 }
 
