@@ -25,7 +25,6 @@ fn first_eight(values: &[Value]) -> &[Value]
 }
 
 // The byte of up to eight values: bit i is set where value i is NULL.
-#[tactic(auto, using(crate::proofs::BitLemmas::null_byte_small))]
 fn null_byte(values: &[Value]) -> u8
     requires { length values.now ≤ 8 }
     ensures { result ≡ bits_number (map is_null values.now) }
@@ -111,7 +110,6 @@ fn put_values(out: &mut Vec<u8>, row: &[Value], columns: &[Column]) -> Result<()
 }
 
 /// The bytes of a row that these columns may hold.
-#[tactic(auto, unfolding(crate::specs::Rows::row_bytes))]
 pub fn encode(alloc: Global, row: &Row, cols: &Columns) -> Result<Bytes, NoMemory>
     requires { FitsColumns cols.now row.now }
     ensures { IfOk result (λ bytes. IsRow cols.now bytes row.now) }
