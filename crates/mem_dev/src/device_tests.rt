@@ -204,29 +204,46 @@ fn refused_create(volume: &mut MemVolume, name: &FileName) -> Result<(VolRefusal
     Ok((pages, log))
 }
 
-// A file keeps its name's place while it is out, and until the name is removed.
+// A name is free at first, and freeing it once more changes nothing.
+#[tactic(auto, using(crate::proofs::CallerLemmas::none_is_out))]
+fn free_name(rt: &impl Abort, volume: &mut MemVolume, name: &FileName) -> Result<(), Fail>
+    requires { out_of volume.old.folder ≡ set.empty }
+    ensures { OnOk result (out_of volume.new.folder ≡ set.empty) }
+{
+    assert_eq!(rt; volume.has(name), Ok(false));
+    assert_eq!(rt; refused_take(volume, name, 1)?, VolRefusal::Absent);
+    assert_eq!(rt; refused_log(volume, name)?, VolRefusal::Absent);
+    volume.remove(name)?;
+    Ok(())
+}
+
+// A file keeps its name's place while it is out, and behind that.
 #[tactic(auto, using(page_dev::proofs::OutLemmas::taken_out, page_dev::proofs::OutLemmas::put_back, crate::proofs::CallerLemmas::none_is_out))]
+fn held_name(rt: &impl Abort, volume: &mut MemVolume, name: &FileName) -> Result<(), Fail>
+    requires { out_of volume.old.folder ≡ set.empty }
+    ensures { OnOk result (out_of volume.new.folder ≡ set.empty) }
+{
+    let there = (VolRefusal::Exists, VolRefusal::Exists);
+    let file = volume.create_pages(name, 2)?;
+    assert_eq!(rt; volume.has(name), Ok(true));
+    assert_eq!(rt; refused_create(volume, name)?, there);
+    volume.put_pages(name, file)?;
+    assert_eq!(rt; refused_create(volume, name)?, there);
+    Ok(())
+}
+
+// A name's place is held until the name is removed.
+#[tactic(auto, using(crate::proofs::CallerLemmas::none_is_out))]
 #[test]
 fn names_have_places(rt: HostRuntime) -> Result<(), Fail> {
     let a = named(b"a.ss")?;
     let mut volume = MemVolume::new(rt.alloc())?;
-    assert_eq!(rt; volume.has(&a), Ok(false));
-    assert_eq!(rt; refused_take(&mut volume, &a, 1)?, VolRefusal::Absent);
-    assert_eq!(rt; refused_log(&mut volume, &a)?, VolRefusal::Absent);
-    volume.remove(&a)?;
-    let file = volume.create_pages(&a, 2)?;
-    assert_eq!(rt;
-        (volume.has(&a), volume.has(&named(b"b.ss")?)),
-        (Ok(true), Ok(false))
-    );
-    let there = (VolRefusal::Exists, VolRefusal::Exists);
-    assert_eq!(rt; refused_create(&mut volume, &a)?, there);
-    volume.put_pages(&a, file)?;
-    assert_eq!(rt; refused_create(&mut volume, &a)?, there);
+    free_name(&rt, &mut volume, &a)?;
+    held_name(&rt, &mut volume, &a)?;
     let found = refused_take(&mut volume, &a, 3)?;
     assert_eq!(rt; found, VolRefusal::Length { found: 16_384 });
     volume.remove(&a)?;
-    assert_eq!(rt; (volume.has(&a), volume.faults()), (Ok(false), 0));
+    free_name(&rt, &mut volume, &a)?;
     make(&mut volume, &a, 1)
 }
 
@@ -322,60 +339,108 @@ fn put_back_in_vain(rt: &impl Abort, volume: &mut MemVolume, name: &FileName) ->
     Ok(())
 }
 
-// The volume's own calls fail by number, each kind of call; a file of the name stays as it is.
+// Each kind of call fails where it was to, and changes no file.
+#[tactic(auto, using(crate::proofs::CallerLemmas::none_is_out))]
+fn each_kind_fails(rt: &impl Abort, volume: &mut MemVolume, name: &FileName) -> Result<(), Fail>
+    requires { out_of volume.old.folder ≡ set.empty }
+    ensures { OnOk result (out_of volume.new.folder ≡ set.empty) }
+{
+    volume.fail_volume(1)?;
+    volume.fail_volume(2)?;
+    volume.fail_volume(3)?;
+    assert_eq!(rt; volume.has(name), Err(Failed));
+    assert_eq!(rt; refused_take(volume, name, 1)?, VolRefusal::Failed);
+    assert_eq!(rt; refused_log(volume, name)?, VolRefusal::Failed);
+    volume.fail_volume(1)?;
+    assert_eq!(rt; volume.remove(name), Err(Failed));
+    Ok(())
+}
+
+// The volume's own calls fail by number; a file of the name stays as it is.
 #[tactic(auto, using(crate::proofs::CallerLemmas::none_is_out))]
 #[test]
 fn planned_calls_of_a_volume_fail(rt: HostRuntime) -> Result<(), Fail> {
     let alloc = rt.alloc();
     let a = named(b"a.ss")?;
     let mut volume = MemVolume::new(alloc)?;
+    volume.fail_volume(1)?;
     volume.fail_volume(2)?;
-    volume.fail_volume(3)?;
-    assert_eq!(rt; volume.has(&a), Ok(false));
     let failed = (VolRefusal::Failed, VolRefusal::Failed);
     assert_eq!(rt; refused_create(&mut volume, &a)?, failed);
     assert_eq!(rt; volume.has(&a), Ok(false));
     make(&mut volume, &a, 1)?;
-    volume.fail_volume(1)?;
-    volume.fail_volume(2)?;
-    volume.fail_volume(3)?;
-    volume.fail_volume(4)?;
-    assert_eq!(rt; volume.has(&a), Err(Failed));
-    assert_eq!(rt; refused_take(&mut volume, &a, 1)?, VolRefusal::Failed);
-    assert_eq!(rt; refused_log(&mut volume, &a)?, VolRefusal::Failed);
-    assert_eq!(rt; volume.remove(&a), Err(Failed));
+    each_kind_fails(&rt, &mut volume, &a)?;
     put_back_in_vain(&rt, &mut volume, &a)?;
     visit(&rt, alloc, &mut volume, &a, 1, &[(Call::Read(0, 0), false)])?;
     assert_eq!(rt; (volume.file_faults(), volume.faults()), (0, 8));
     Ok(())
 }
 
-// Each call of a volume and of its files once.
+// A page file is made, written, read and put back.
 #[tactic(auto, using(page_dev::proofs::OutLemmas::taken_out, page_dev::proofs::OutLemmas::put_back, crate::proofs::CallerLemmas::none_is_out))]
+fn new_pages<V: Volume>(
+    rt: &impl Abort,
+    alloc: Global,
+    volume: &mut V,
+    name: &FileName,
+) -> Result<(), Fail>
+    requires { V.out volume.old ≡ set.empty }
+    ensures { OnOk result (V.out volume.new ≡ set.empty) }
+{
+    let mut image = image_of(alloc, 6)?;
+    let mut file = volume.create_pages(name, 2)?;
+    file.write_page(1, &image)?;
+    file.read_page(0, &mut image)?;
+    assert_eq!(rt; (image.bytes()[0], file.pages(), file.faults()), (0, 2, 0));
+    volume.put_pages(name, file)?;
+    Ok(())
+}
+
+// It is taken and read again, and removed.
+#[tactic(auto, using(page_dev::proofs::OutLemmas::taken_out, page_dev::proofs::OutLemmas::put_back, crate::proofs::CallerLemmas::none_is_out))]
+fn old_pages<V: Volume>(
+    rt: &impl Abort,
+    alloc: Global,
+    volume: &mut V,
+    name: &FileName,
+) -> Result<(), Fail>
+    requires { V.out volume.old ≡ set.empty }
+    ensures { OnOk result (V.out volume.new ≡ set.empty) }
+{
+    let mut image = Image::blank(alloc)?;
+    let mut file = volume.take_pages(name, 2)?;
+    file.read_page(1, &mut image)?;
+    assert_eq!(rt; image.bytes()[8191], 6);
+    volume.put_pages(name, file)?;
+    assert_eq!(rt; volume.has(name), Ok(true));
+    volume.remove(name)?;
+    Ok(())
+}
+
+// A log is made, written, put back, taken and read.
+#[tactic(auto, using(page_dev::proofs::OutLemmas::taken_out, page_dev::proofs::OutLemmas::put_back, crate::proofs::CallerLemmas::none_is_out))]
+fn both_logs<V: Volume>(rt: &impl Abort, volume: &mut V, name: &FileName) -> Result<(), Fail>
+    requires { V.out volume.old ≡ set.empty }
+{
+    let mut log = volume.create_log(name)?;
+    log.append_at(0, b"abc")?;
+    volume.put_log(name, log)?;
+    let mut log = volume.take_log(name)?;
+    let mut piece = [0u8; 2];
+    assert_eq!(rt; (log.read_at(1, &mut piece), log.faults()), (Ok(2), 0));
+    assert_eq!(rt; piece, [b'b', b'c']);
+    volume.put_log(name, log)?;
+    Ok(())
+}
+
+// Each call of a volume and of its files once.
 fn all_calls<V: Volume>(rt: &impl Abort, alloc: Global, volume: &mut V) -> Result<(), Fail>
     requires { V.out volume.old ≡ set.empty }
 {
     let name = named(b"a.ss")?;
-    let mut image = image_of(alloc, 6)?;
-    let mut file = volume.create_pages(&name, 2)?;
-    file.write_page(1, &image)?;
-    file.read_page(0, &mut image)?;
-    assert_eq!(rt; (image.bytes()[0], file.pages(), file.faults()), (0, 2, 0));
-    volume.put_pages(&name, file)?;
-    let mut file = volume.take_pages(&name, 2)?;
-    file.read_page(1, &mut image)?;
-    assert_eq!(rt; image.bytes()[8191], 6);
-    volume.put_pages(&name, file)?;
-    assert_eq!(rt; volume.has(&name), Ok(true));
-    volume.remove(&name)?;
-    let mut log = volume.create_log(&name)?;
-    log.append_at(0, b"abc")?;
-    volume.put_log(&name, log)?;
-    let mut log = volume.take_log(&name)?;
-    let mut piece = [0u8; 2];
-    assert_eq!(rt; (log.read_at(1, &mut piece), log.faults()), (Ok(2), 0));
-    assert_eq!(rt; piece, [b'b', b'c']);
-    volume.put_log(&name, log)?;
+    new_pages(rt, alloc, volume, &name)?;
+    old_pages(rt, alloc, volume, &name)?;
+    both_logs(rt, volume, &name)?;
     assert_eq!(rt; (volume.file_faults(), volume.faults()), (0, 0));
     Ok(())
 }
