@@ -1,7 +1,8 @@
 -- One step of a session, and what it leaves of the run.
-use Rattle.std.specs.Prelude.{ℕ, ◌≡◌, ◌≢◌, ◌+◌, ◌<◌, ◌≤◌, false, List, length, slice_index_or, slice_set}
+use Rattle.std.specs.Prelude.{ℕ, ◌≡◌, ◌≢◌, ◌⊎◌, ◌+◌, ◌<◌, ◌≤◌, true, false, List, length, slice_index_or, slice_set}
 use Rattle.plain_model.specs.declared.stmt.Stmt.{Stmt}
 use Rattle.plain_model.specs.declared.stmt.Stmt.TheVariants.{Broken}
+use Rattle.plain_model.specs.State.{master}
 use Rattle.engine_core.specs.declared.seat.Seat.{Seat}
 use Rattle.engine_core.specs.Safe.{Run, seat_at, script_at}
 
@@ -36,3 +37,15 @@ pub record Says (old new : Run) (i : ℕ) : Type 0 where
 -- the seats of all other sessions are as they were
 abbrev pub AreOthersSame : Run → Run → ℕ → Type 0
 AreOthersSame old new i = (j : ℕ) → j ≢ i → seat_at new j ≡ seat_at old j
+
+-- session i + 1 left, having answered all its statements
+abbrev pub Leaves : Run → Run → ℕ → Type 0
+Leaves old new i = ((seat_at old i).said ≡ length (script_at old i)) × Steps old new i (record { current = master; said = (seat_at old i).said; gone = true })
+
+-- session i + 1 answered its next statement, or left where it had none
+abbrev pub Moves : Run → Run → ℕ → Type 0
+Moves old new i = ((seat_at old i).gone ≡ false) × (Says old new i ⊎ Leaves old new i)
+
+-- all sessions have left
+abbrev pub HaveLeft : Run → Type 0
+HaveLeft e = (i : ℕ) → i < length e.scripts → (seat_at e i).gone ≡ true

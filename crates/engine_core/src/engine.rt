@@ -1,7 +1,8 @@
 //! The engine: a source in pages, its snapshots, its sessions, and the history of what they did.
 
-ghost use Rattle.std.specs.Prelude.{◌≡◌, ◌+◌, ◌<◌, ◌≤◌, ℕ, List, [], true, false, ◌∷◌, ◌*◌, length, sum_by, replicate, IfOk, IfErr, slice_index_or, slice_get, Some, IsTrue};
-ghost use Rattle.engine_core.specs.Steps.{next_stmt, HasNext, Goes, Steps, Says, AreOthersSame};
+ghost use Rattle.std.specs.Prelude.{◌≡◌, ◌+◌, ◌<◌, ◌≤◌, ℕ, List, [], true, false, ◌∷◌, ◌*◌, length, sum_by, replicate, IfOk, IfErr, slice_index_or, slice_get, Some, IsTrue, ◌-◌, ◌↔◌};
+ghost use Rattle.engine_core.specs.Steps.{next_stmt, HasNext, Goes, Steps, Says, AreOthersSame, Moves, HaveLeft};
+ghost use Rattle.engine_core.specs.declared.moved.Moved.TheVariants.{Went, Ended};
 ghost use Rattle.engine_core.specs.Safe.{state, seen_by, seat_at, script_at, is_turn};
 ghost use Rattle.engine_core.specs.Closing.{IsFault};
 ghost use Rattle.plain_model.specs.Legal.{Legal};
@@ -29,6 +30,7 @@ use crate::closing::{CloseEnd, put_back};
 use crate::course::Course;
 use crate::creating::create_snapshot;
 use crate::decision::Decision;
+use crate::moved::Moved;
 use crate::seeing::select_in;
 use crate::{Ledger, Seat};
 use page_base::{Name, NoMemory, SessNo, SnapNo};
@@ -370,6 +372,55 @@ impl<V: Volume> Engine<V> {
         self.answer_all(alloc, place);
         if !self.seats[place].gone {
             self.leave(place);
+        }
+    }
+
+    // Whether all sessions have left.
+    fn have_left(&self) -> bool
+        ensures { IsTrue result ↔ HaveLeft self.now }
+    {
+        let _scripts = self.scripts.len();
+        self.seats.iter().all(|seat| seat.gone)
+    }
+
+    // A session's next step.
+    fn session_step(&mut self, alloc: Global, place: usize) -> Moved
+        requires there { place < length self.old.scripts }
+        ensures ended { result ≡ Ended ↔ ((seat_at self.old place).gone ≡ true) }
+        ensures still { result ≡ Ended → self.new ≡ self.old }
+        ensures went { result ≡ Went → Moves self.old self.new place }
+    {
+        let seat = self.seats[place];
+        if seat.gone {
+            return Moved::Ended;
+        }
+        if (seat.said as usize) < self.scripts.at(place).len() {
+            self.statement(alloc, place);
+        } else {
+            self.leave(place);
+        }
+        Moved::Went
+    }
+
+    /// The one next step of a session, numbered from 1: its next statement, or its leaving where it has none left. Ended
+    /// exactly where the session has left; then nothing changes. Number 0 stands for a flusher of pages, which has
+    /// nothing to do yet: it changes nothing, and has ended exactly where all sessions have left.
+    pub fn step(&mut self, alloc: Global, who: u8) -> Moved
+        requires { who ≤ length self.old.scripts }
+        ensures goes { Goes self.old self.new }
+        ensures ended { 1 ≤ who → (result ≡ Ended ↔ ((seat_at self.old (who - 1)).gone ≡ true)) }
+        ensures still { result ≡ Ended → self.new ≡ self.old }
+        ensures went { 1 ≤ who → result ≡ Went → Moves self.old self.new (who - 1) }
+        ensures idle { who ≡ 0 → self.new ≡ self.old }
+        ensures done { who ≡ 0 → (result ≡ Ended ↔ HaveLeft self.old) }
+    {
+        if who > 0 {
+            return self.session_step(alloc, who as usize - 1);
+        }
+        if self.have_left() {
+            Moved::Ended
+        } else {
+            Moved::Went
         }
     }
 
