@@ -18,7 +18,7 @@ use Rattle.sql_read.specs.declared.token.Mark.{Mark}
 use Rattle.sql_read.specs.Words.{text_of, keyword_of}
 use Rattle.sql_read.specs.Texts.{is_quote, is_printable, doubled, quoted, undoubled, text_end}
 use Rattle.sql_read.specs.Tokens.{is_white, goes_on, starts, number_of, byte_of, AreDigits, Spells, IsToken, IsUnclosed, token, Lexes, end, white, next, text, unclosed}
-use Rattle.sql_read.specs.Cut.{IsPiece, IsWord, front_of, more_len, number_kind, name_kind, word_kind, text_kind, mark_kind, kind_of, first_kind, joined, cut, tokens_from}
+use Rattle.sql_read.specs.Cut.{IsPiece, IsWord, more_len, number_kind, name_kind, word_kind, text_kind, mark_kind, kind_of, first_kind, joined, cut, tokens_from}
 use Rattle.sql_read.proofs.WordLemmas.{keyword_found, keyword_has, no_keyword}
 use Rattle.sql_read.proofs.Lexing.{front_passes, piece_of_digits, piece_is_word, word_is_name}
 use Rattle.sql_read.proofs.TextLemmas.{undoubled-doubled, closes, ends, none_closed, unclosed_none, take_text, drop_text, front_of-append}

@@ -1,13 +1,13 @@
 -- Texts that end with the name of a file.
-use Rattle.std.proofs.Common.{◌≡◌, ℕ, suc, ◌+◌, ◌<◌, ◌≤◌, Bool, true, false, cond, List, [], ◌∷◌, ◌++◌, length, arith, ap, sym, ◌∙◌, refl, subst, get_or}
-use Rattle.std.specs.Prelude.{All, not, nat_le, ◌==◌, ◌&&◌, ◌||◌, codes, Result, Ok, Err}
+use Rattle.std.proofs.Common.{◌≡◌, ℕ, suc, ◌<◌, Bool, true, false, cond, List, [], ◌∷◌, length, arith, ap, ◌∙◌, refl, subst, get_or}
+use Rattle.std.specs.Prelude.{not, nat_le, ◌==◌, ◌&&◌, ◌||◌, codes, Result, Ok, Err}
 use Rattle.std.specs.Option.{SomeIff}
 use Rattle.std.specs.Result.{OkIff, result_ok}
 use Rattle.std.specs.List.{list_all, list_any}
 use Rattle.std.proofs.lemmas.Bool.{eqb-true, le-leb, leb-true}
 use Rattle.std.proofs.lemmas.Bool.Decides.{nat_tests}
 use Rattle.page_base.specs.FileName.{IsFileName, is_file_name_byte, is_separator, last_part}
-use Rattle.sql_read.proofs.BoolLemmas.{is_false, is_true, both_hold, not_byte, clash}
+use Rattle.sql_read.proofs.BoolLemmas.{is_false, both_hold, not_byte, clash}
 use Rattle.sql_read.specs.Texts.{is_quote, is_printable, doubled}
 use Rattle.sql_read.specs.Table.{is_file_name}
 use Rattle.sql_read.proofs.Lexing.{each_passes}

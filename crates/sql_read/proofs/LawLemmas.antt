@@ -1,5 +1,5 @@
 -- One cutting, one reading, one place.
-use Rattle.std.proofs.Common.{◌≡◌, ℕ, Bool, true, false, List, [], ◌∷◌, ◌++◌, length, arith, ap, sym, ◌∙◌, refl, subst, append_assoc, inl, inr, ◌⊎◌, append-nil, length-append}
+use Rattle.std.proofs.Common.{◌≡◌, ℕ, Bool, true, false, List, [], ◌∷◌, ◌++◌, length, arith, ap, sym, ◌∙◌, refl, subst, append_assoc, inl, inr, ◌⊎◌, length-append}
 use Rattle.std.proofs.lemmas.List.{map-append}
 use Rattle.std.specs.Prelude.{ℤ, flat_map, codes}
 use Rattle.plain_model.specs.declared.stmt.Stmt.{Stmt}
@@ -12,8 +12,8 @@ use Rattle.sql_read.specs.declared.context_word.ContextWord.TheVariants as place
 use Rattle.sql_read.specs.Words.{letters_of}
 use Rattle.sql_read.specs.Tokens.{kinds}
 use Rattle.sql_read.specs.Cut.{tokens_from, cut}
-use Rattle.sql_read.specs.Grammar.{IsStmt, use_database, create_table, create_snap, insert_row, update_rows, select_all, AreStmts, FileText, AreFiles, file_tokens, more_file, more_number, more_column}
-use Rattle.sql_read.specs.Place.{Begins, CantStand, IsFull, IsNoFile, IsWrong}
+use Rattle.sql_read.specs.Grammar.{IsStmt, use_database, create_table, create_snap, insert_row, update_rows, select_all, AreStmts, FileText, AreFiles, more_file, more_number, more_column}
+use Rattle.sql_read.specs.Place.{Begins, IsFull, IsWrong}
 use Rattle.sql_read.specs.Laws.{HasOneCutting, HasOneReading, HasOnePlace}
 use Rattle.sql_read.proofs.CuttingLaws.{cut_lexes, lexes_cut}
 use Rattle.sql_read.proofs.FileLemmas.{short_file_name}
@@ -80,7 +80,7 @@ stmt_one limited front after rest more s u (create_snap n source first others fe
     let end : List ℕ → List TokenKind = λ (of : List ℕ). Key word.As ∷ Named (letters_of place.Snapshot) ∷ Key word.Of ∷ Named of ∷ [] in
     let tails : (flat_map more_file others ++ end source) ++ rest ≡ (flat_map more_file files ++ end origin) ++ more = cc in
     let same = files_one others files (Named (letters_of place.Snapshot) ∷ Key word.Of ∷ Named source ∷ rest) (Named (letters_of place.Snapshot) ∷ Key word.Of ∷ Named origin ∷ more)
-        (sym (append_assoc (flat_map more_file others) (end source) rest) ∙ tails ∙ append_assoc (flat_map more_file files) (end origin) more) in
+    (sym (append_assoc (flat_map more_file others) (end source) rest) ∙ tails ∙ append_assoc (flat_map more_file files) (end origin) more) in
     let last : source ≡ origin = cc (same.1) in
     let behind : rest ≡ more = cc (same.1) in
     (rw (name, logical, path, same.0, last) refl, behind)

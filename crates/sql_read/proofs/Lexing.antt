@@ -11,8 +11,7 @@ use Rattle.sql_read.proofs.BoolLemmas.{is_false, is_true, not_byte}
 use Rattle.sql_read.proofs.TextLemmas.{text_rest}
 use Rattle.page_base.specs.Name.{IsName, is_name_byte}
 use Rattle.sql_read.specs.Tokens.{goes_on, number_behind}
-use Rattle.sql_read.specs.Texts.{is_quote}
-use Rattle.sql_read.specs.Cut.{more_len, token_len, IsPiece, IsTextRest, IsWord}
+use Rattle.sql_read.specs.Cut.{more_len, token_len, IsPiece, IsWord}
 
 number_grows : (n : ℕ) (ds : List ℕ) → n ≤ number_behind n ds
 number_grows n [] = omega arith

@@ -1,6 +1,6 @@
 -- What tokens may follow where some symbols are due, and that the table keeps to it.
 use Rattle.std.proofs.Common.{◌≡◌, ℕ, ◌+◌, Bool, true, false, cond, List, [], ◌∷◌, ◌++◌, length, arith, ap, sym, ◌∙◌, refl, subst, Option, append_assoc, inl, inr, ◌⊎◌}
-use Rattle.std.specs.Prelude.{ℤ, pos, Some, None, nat_le, not, ◌&&◌, ◌||◌, ◌==◌, flat_map, codes}
+use Rattle.std.specs.Prelude.{ℤ, pos, Some, None, nat_le, ◌&&◌, ◌==◌, flat_map, codes}
 use Rattle.page_base.specs.FileName.{IsFileName, last_part}
 use Rattle.sql_read.specs.declared.context_word.ContextWord.{ContextWord}
 use Rattle.sql_read.specs.declared.context_word.ContextWord.TheVariants as place
@@ -20,7 +20,7 @@ use Rattle.sql_read.proofs.FileLemmas.{is_file_name_is, short_file_name}
 use Rattle.sql_read.specs.Tokens.{byte_of, Spells}
 use Rattle.sql_read.proofs.Writing.{AreSpelled, spelled_both}
 use Rattle.sql_read.specs.Grammar.{IsStmt, use_database, create_table, create_snap, insert_row, update_rows, select_all, AreStmts, MayHave, FileText, AreFiles, file_tokens, more_file, more_number, more_column}
-use Rattle.sql_read.specs.Table.{Symbol, Key, Word, Sign, AnyName, AnyNumber, AnyPath, Part, MoreNumbers, MoreColumns, MoreFiles, Created, MoreStmts, Finish, is_key, is_word, is_mark, is_name, is_number, is_path, is_file_name, is_end, table_rest, file_symbols, snap_rest, insert_rest, update_rest, select_rest, feed, start}
+use Rattle.sql_read.specs.Table.{Symbol, Key, Word, Sign, AnyName, AnyNumber, AnyPath, Part, MoreNumbers, MoreColumns, MoreFiles, Created, MoreStmts, Finish, is_key, is_word, is_mark, is_name, is_number, is_path, is_end, table_rest, file_symbols, snap_rest, insert_rest, update_rest, select_rest, feed, start}
 
 -- statements one behind the other
 abbrev pub Behind : Bool → List TokenKind → List Stmt → Type 0

@@ -17,7 +17,7 @@ use Rattle.sql_read.specs.declared.keyword.Keyword.TheVariants as word
 use Rattle.sql_read.specs.declared.token.Mark.TheVariants as mark
 use Rattle.sql_read.specs.declared.token.Token.{Token}
 use Rattle.sql_read.specs.declared.token.TokenKind.{TokenKind}
-use Rattle.sql_read.specs.declared.token.TokenKind.TheVariants.{Key, Named, Number, Text, Mark}
+use Rattle.sql_read.specs.declared.token.TokenKind.TheVariants.{Key, Named, Number, Mark}
 use Rattle.sql_read.specs.declared.context_word.ContextWord.TheVariants as place
 use Rattle.sql_read.specs.Words.{letters_of}
 use Rattle.page_base.specs.FileName.{IsFileName, last_part}

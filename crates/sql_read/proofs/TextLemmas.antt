@@ -1,11 +1,11 @@
 -- Where a text ends, and what it says.
-use Rattle.std.proofs.Common.{◌≡◌, ℕ, ◌+◌, ◌-◌, ◌≤◌, Bool, true, false, cond, List, [], ◌∷◌, ◌++◌, length, take, drop, arith, ap, sym, ◌∙◌, refl, subst, inl, inr, ◌⊎◌, Option, append_assoc, length-append}
+use Rattle.std.proofs.Common.{◌≡◌, ℕ, ◌+◌, ◌-◌, ◌≤◌, Bool, true, false, cond, List, [], ◌∷◌, ◌++◌, length, take, drop, arith, ap, sym, ◌∙◌, refl, inl, inr, ◌⊎◌, Option, append_assoc, length-append}
 use Rattle.std.specs.Prelude.{Some, None, unwrap_or}
 use Rattle.std.specs.List.{list_all}
 use Rattle.std.proofs.lemmas.Bool.{eqb-true}
 use Rattle.std.proofs.Math.Seq.{take-append_seam, drop-append_seam}
 use Rattle.sql_read.proofs.BoolLemmas.{both_hold}
-use Rattle.sql_read.specs.Texts.{is_quote, is_printable, doubled, quoted, undoubled, text_end}
+use Rattle.sql_read.specs.Texts.{is_quote, is_printable, doubled, undoubled, text_end}
 use Rattle.sql_read.specs.Tokens.{starts, IsUnclosed}
 use Rattle.sql_read.specs.Cut.{front_of, IsTextRest}
 

@@ -1,6 +1,6 @@
 -- Bytes for tokens.
-use Rattle.std.proofs.Common.{◌≡◌, ℕ, suc, ◌+◌, ◌<◌, Bool, true, false, List, [], ◌∷◌, ◌++◌, length, arith, ap, sym, ◌∙◌, refl, subst, inl, inr, ◌⊎◌, get_or}
-use Rattle.std.specs.Prelude.{ℤ, flat_map, not, ◌&&◌, ◌==◌}
+use Rattle.std.proofs.Common.{◌≡◌, ℕ, suc, ◌+◌, Bool, true, false, List, [], ◌∷◌, ◌++◌, length, arith, ap, sym, ◌∙◌, refl, subst, inl, inr, ◌⊎◌}
+use Rattle.std.specs.Prelude.{ℤ, flat_map, not, ◌&&◌}
 use Rattle.std.specs.List.{list_all}
 use Rattle.std.specs.Char.{is_ascii_digit}
 use Rattle.plain_model.specs.declared.stmt.Stmt.{Stmt}
@@ -15,7 +15,7 @@ use Rattle.sql_read.specs.declared.token.TokenKind.TheVariants as kind
 use Rattle.sql_read.specs.declared.token.TokenKind.TheVariants.{Key, Named, Number, Text, Bad, End}
 use Rattle.sql_read.specs.Texts.{is_quote, is_printable, quoted}
 use Rattle.sql_read.specs.Tokens.{is_white, goes_on, byte_of, AreDigits, Spells, IsToken, token, Lexes, end, white, next, text, unclosed, kinds}
-use Rattle.sql_read.specs.Grammar.{IsStmt, use_database, create_table, create_snap, insert_row, update_rows, select_all, AreStmts, FileText, file_tokens, more_file, more_number, more_column}
+use Rattle.sql_read.specs.Grammar.{IsStmt, use_database, create_table, create_snap, insert_row, update_rows, select_all, AreStmts, FileText, more_file, more_number, more_column}
 use Rattle.sql_read.specs.Table.{is_end}
 use Rattle.sql_read.proofs.Lexing.{all_same}
 

@@ -15,8 +15,8 @@ use crate::parser::Parser;
 use crate::{ContextWord, Keyword, Mark, ParseRefusal};
 use page_base::{ColType, Column, Columns, Name};
 use plain_model::{
-    ExprList, ExprRows, InsertStmt, Items, Names, OrderList, SelectStmt, SetItem, SetList, SnapFile, SnapFiles,
-    Stmt, UpdateStmt,
+    ExprList, ExprRows, InsertStmt, Items, Names, OrderList, SelectStmt, SetItem, SetList,
+    SnapFile, SnapFiles, Stmt, UpdateStmt,
 };
 use std::alloc::Global;
 

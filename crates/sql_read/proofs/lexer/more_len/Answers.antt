@@ -1,4 +1,3 @@
-use Rattle.std.proofs.Common.{◌≡◌}
 use Rattle.sql_read.proofs.TextLemmas.{text_within}
 use Rattle.sql_read.proofs.lexer.more_len.Goals as goal
 
