@@ -42,8 +42,8 @@ file_name_fails bs unnamed = is_false (is_file_name bs) (λ h. unnamed (is_file_
 pub short_file_name : IsFileName (codes "a")
 short_file_name = is_file_name_is (codes "a") refl
 
-no_separator_one : (b : ℕ) (bs : List ℕ) (v : Bool) → is_file_name_byte b ≡ true → is_separator b ≡ false
-no_separator_one b bs v h = rw (not_byte is_file_name_byte b 92 h refl, not_byte is_file_name_byte b 47 h refl) refl
+no_separator : (b : ℕ) → is_file_name_byte b ≡ true → is_separator b ≡ false
+no_separator b h = rw (not_byte is_file_name_byte b 92 h refl, not_byte is_file_name_byte b 47 h refl) refl
 
 any_none : (test good : ℕ → Bool) (bs : List ℕ) → ((b : ℕ) → good b ≡ true → test b ≡ false) → list_all good bs ≡ true → list_any test bs ≡ false
 any_none test good [] other h = refl
@@ -56,7 +56,7 @@ last_one b bs h = rw h refl
 pub last_part-name : (bs : List ℕ) → IsFileName bs → last_part bs ≡ bs
 last_part-name [] h = refl
 last_part-name (b ∷ bs) h =
-    last_one b bs (any_none is_separator is_file_name_byte (b ∷ bs) (λ c good. no_separator_one c bs true good) (all_pass is_file_name_byte (b ∷ bs) (λ i d within. h.each i d within)))
+    last_one b bs (any_none is_separator is_file_name_byte (b ∷ bs) no_separator (all_pass is_file_name_byte (b ∷ bs) (λ i d within. h.each i d within)))
 
 -- and it can stand in a text
 all_also : (p q : ℕ → Bool) (bs : List ℕ) → ((b : ℕ) → p b ≡ true → q b ≡ true) → list_all p bs ≡ true → list_all q bs ≡ true

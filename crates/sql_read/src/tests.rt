@@ -121,7 +121,7 @@ const SNAPSHOTS_AND_UPDATES: [(&str, Outcome); 37] = [
         Outcome::RefusedAt(43),
     ),
     (
-        "CREATE DATABASE s ON (NAME = a, FILENAME = '/tmp/x/s1.ss') AS SNAPSHOT OF b",
+        "CREATE DATABASE s ON (NAME = a, FILENAME = '/data/x/s1.ss') AS SNAPSHOT OF b",
         Outcome::Read(1),
     ),
     (
@@ -424,7 +424,7 @@ fn is_update(stmt: &Stmt, name: &[u8], col: &[u8], number: i64) -> bool {
 fn snapshots_and_updates_have_their_trees(rt: HostRuntime) -> Result<(), Fail> {
     let stmts = read(
         rt.alloc(),
-        b"CREATE DATABASE s1 ON (NAME = shop_data, FILENAME = 's1.ss') AS SNAPSHOT OF shop\nUPDATE T SET v = 20\nCREATE DATABASE S2 ON (NAME = One, FILENAME = 'c:\\data\\S2.ss'), (NAME = two, FILENAME = '/tmp/x/it''s/s-2') AS SNAPSHOT OF Shop".as_slice(),
+        b"CREATE DATABASE s1 ON (NAME = shop_data, FILENAME = 's1.ss') AS SNAPSHOT OF shop\nUPDATE T SET v = 20\nCREATE DATABASE S2 ON (NAME = One, FILENAME = 'c:\\data\\S2.ss'), (NAME = two, FILENAME = '/data/x/it''s/s-2') AS SNAPSHOT OF Shop".as_slice(),
     )?;
     assert_eq!(rt; stmts.len(), 3);
     assert!(rt;
