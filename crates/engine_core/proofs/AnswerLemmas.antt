@@ -1,5 +1,5 @@
 -- A statement's events, entered one after the other.
-use Rattle.std.proofs.Common.{◌≡◌, ◌≢◌, ◌+◌, ◌-◌, ◌<◌, ◌≤◌, ℕ, Bool, true, false, List, [], ◌∷◌, ◌++◌, length, refl, ap, sym, ◌∙◌, subst, arith, length-append, append_assoc}
+use Rattle.std.proofs.Common.{◌≡◌, ◌+◌, ◌-◌, ◌≤◌, ℕ, true, false, List, [], ◌∷◌, ◌++◌, length, refl, ap, ◌∙◌, arith, length-append, append_assoc}
 use Rattle.plain_model.specs.declared.stmt.Stmt.{Stmt}
 use Rattle.plain_model.specs.declared.stmt.Stmt.TheVariants.{UseDb}
 use Rattle.plain_model.specs.declared.event.Event.{Event}
@@ -12,7 +12,7 @@ use Rattle.engine_core.specs.declared.answer.Answer.TheVariants.{AtOnce, UnderAl
 use Rattle.engine_core.specs.Entering.{Kept, entered}
 use Rattle.engine_core.specs.Pushing.{Leaves, Turns, sound}
 use Rattle.engine_core.specs.Ready.{reply_of}
-use Rattle.engine_core.specs.Stepping.{number, lock_events, statement_events, current_after, is_refusal}
+use Rattle.engine_core.specs.Stepping.{number, lock_events, current_after, is_refusal}
 use Rattle.engine_core.specs.Doing.{Does}
 
 pub does_one : (k n began : ℕ) (answer : Answer) (reply : Reply) (a b c d : Kept) (v w : Shown) → b.events ≡ a.events ++ lock_events k answer → b.room + length (lock_events k answer) ≡ a.room → Turns b c v w → Leaves v w →

@@ -1,35 +1,28 @@
 -- What comes at once, without a lock.
-use Rattle.std.proofs.Common.{◌≡◌, ◌≢◌, ◌⊎◌, inl, inr, ℕ, Bool, true, false, ◌&&◌, ◌||◌, not, cond, List, [], ◌∷◌, refl, ap, sym, ◌∙◌, subst}
-use Rattle.std.specs.Prelude.{Option, Some, None}
+use Rattle.std.proofs.Common.{◌≡◌, inl, inr, ℕ, Bool, true, false, ◌||◌, not, cond, List, [], refl, ap, ◌∙◌}
+use Rattle.std.specs.Prelude.{Some}
 use Rattle.std.specs.Str.{bytes_eq}
 use Rattle.std.proofs.lemmas.Slice.Eq.{bytes_eq-Decides}
 use Rattle.page_base.specs.declared.column.Column.{Column}
-use Rattle.page_base.specs.declared.numbers.SnapNo.{SnapNo}
 use Rattle.plain_model.specs.declared.stmt.Stmt.{Stmt}
 use Rattle.plain_model.specs.declared.stmt.Stmt.TheVariants.{UseDb, CreateTable, Insert, Select, Update, Broken}
 use Rattle.plain_model.specs.declared.stmt.InsertStmt.{InsertStmt}
 use Rattle.plain_model.specs.declared.stmt.SelectStmt.{SelectStmt}
 use Rattle.plain_model.specs.declared.stmt.UpdateStmt.{UpdateStmt}
-use Rattle.plain_model.specs.declared.reply.Message.{Message}
 use Rattle.plain_model.specs.declared.reply.Reply.{Reply}
 use Rattle.plain_model.specs.declared.reply.Reply.TheVariants.{Ok, Msg}
-use Rattle.plain_model.specs.Tables.{Tables}
 use Rattle.plain_model.specs.Journal.{Opening}
-use Rattle.plain_model.specs.State as plain
-use Rattle.plain_model.specs.State.{Plain, session, is_suspect, is_source, is_snap, is_restoring, is_being_made, copy, master}
+use Rattle.plain_model.specs.State.{Plain, session, is_suspect, is_source, is_snap, copy, master}
 use Rattle.plain_model.specs.Meaning.{plain, at_place, shape}
-use Rattle.plain_model.specs.Meaning as meaning
-use Rattle.plain_model.specs.Next.{Next, Replies, unless, unless_shape, answers, no_write, is_database, next_built, next_of, is_built}
-use Rattle.plain_model.specs.Free.{IsFree, NoMemory, is_of_tables, reads_suspect}
-use Rattle.snap_pages.specs.Catalog.{Catalog, snap_at, HasSnap, IsCatalog, LacksName}
+use Rattle.plain_model.specs.Next.{Next, Replies, unless, unless_shape, answers, no_write, is_database, next_of, is_built}
+use Rattle.plain_model.specs.Free.{NoMemory, is_of_tables, reads_suspect}
+use Rattle.snap_pages.specs.Catalog.{Catalog, IsCatalog, LacksName}
 use Rattle.engine_core.specs.declared.answer.Answer.TheVariants.{AtOnce}
 use Rattle.engine_core.specs.declared.database.Database.{Database}
 use Rattle.engine_core.specs.declared.database.Database.TheVariants.{Source, Master, Snap, Absent}
 use Rattle.engine_core.specs.Databases.{Means, is_lost, is_there, is_home, is_shot}
 use Rattle.engine_core.specs.Deciding.{AreApart}
-use Rattle.engine_core.specs.Pushing as pushing
 use Rattle.engine_core.specs.Ready.{Seen, Ready, Comes}
-use Rattle.engine_core.proofs.PushLemmas.{bytes_same}
 use Rattle.engine_core.proofs.Coming.{not_built, built}
 use Rattle.engine_core.proofs.Placed.{snaps, lacks_snap, lacks_lost, has_snap, has_state}
 

@@ -1,9 +1,8 @@
 -- Decisions by a session's current database.
-use Rattle.std.proofs.Common.{◌≡◌, ◌⊎◌, inl, inr, ℕ, Bool, true, false, cond, List, [], ◌∷◌, length, refl, ap, sym, ◌∙◌, subst, Result, Ok, Err}
+use Rattle.std.proofs.Common.{◌≡◌, ℕ, true, false, cond, List, [], length, refl, sym, subst, Result, Ok, Err}
 use Rattle.std.specs.Prelude.{◌==◌, IfOk, MatchResult}
 use Rattle.page_base.specs.declared.column.Column.{Column}
 use Rattle.page_base.specs.declared.failure.NoMemory.{NoMemory}
-use Rattle.page_base.specs.declared.numbers.SnapNo.{SnapNo}
 use Rattle.plain_model.specs.declared.stmt.Stmt.{Stmt}
 use Rattle.plain_model.specs.declared.stmt.Stmt.TheVariants.{UseDb, CreateTable, Insert, Select, Update, CreateSnap, Broken}
 use Rattle.plain_model.specs.declared.stmt.SnapFile.{SnapFile}
@@ -20,7 +19,6 @@ use Rattle.snap_pages.specs.Shown.{Shown, catalog}
 use Rattle.engine_core.specs.declared.decision.Decision.{Decision}
 use Rattle.engine_core.specs.declared.database.Database.{Database}
 use Rattle.engine_core.specs.declared.database.Database.TheVariants.{Source, Master, Snap, Absent}
-use Rattle.engine_core.specs.declared.answer.Answer.{Answer}
 use Rattle.engine_core.specs.declared.answer.Answer.TheVariants.{AtOnce}
 use Rattle.engine_core.specs.Databases.{Means, is_lost, is_there, is_home, is_shot}
 use Rattle.engine_core.specs.Ready.{Seen}

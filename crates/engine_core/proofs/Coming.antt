@@ -1,13 +1,12 @@
 -- What comes of a statement, by the plain machine.
-use Rattle.std.proofs.Common.{◌≡◌, ◌⊎◌, inl, inr, ℕ, suc, zero, Bool, true, false, ◌&&◌, ◌||◌, not, nat_eq, cond, IsTrue, List, [], ◌∷◌, length, map, refl, ap, sym, ◌∙◌, subst}
-use Rattle.std.specs.Prelude.{Option, Some, None, ◌==◌}
+use Rattle.std.proofs.Common.{◌≡◌, inl, inr, ℕ, true, false, cond, List, [], ◌∷◌, length, refl, ap, ◌∙◌, subst}
+use Rattle.std.specs.Prelude.{Some, None, ◌==◌}
 use Rattle.std.specs.Str.{bytes_eq}
-use Rattle.std.specs.FinMap as finite
 use Rattle.page_base.specs.declared.column.Column.{Column}
 use Rattle.page_base.specs.declared.numbers.Mode.{Mode}
 use Rattle.page_base.specs.declared.numbers.Mode.TheVariants.{S, X}
 use Rattle.plain_model.specs.declared.stmt.Stmt.{Stmt}
-use Rattle.plain_model.specs.declared.stmt.Stmt.TheVariants.{UseDb, CreateTable, Insert, Select, Update, Broken}
+use Rattle.plain_model.specs.declared.stmt.Stmt.TheVariants.{CreateTable, Insert, Select, Update}
 use Rattle.plain_model.specs.declared.stmt.InsertStmt.{InsertStmt}
 use Rattle.plain_model.specs.declared.stmt.SelectStmt.{SelectStmt}
 use Rattle.plain_model.specs.declared.stmt.UpdateStmt.{UpdateStmt}
@@ -15,16 +14,16 @@ use Rattle.plain_model.specs.declared.event.LockName.{LockName}
 use Rattle.plain_model.specs.declared.event.LockName.TheVariants.{All, Table}
 use Rattle.plain_model.specs.declared.reply.Message.{Message}
 use Rattle.plain_model.specs.declared.reply.Reply.{Reply}
-use Rattle.plain_model.specs.declared.reply.Reply.TheVariants.{Ok, Count, Rows, Msg}
-use Rattle.plain_model.specs.Tables.{Tables, apply}
+use Rattle.plain_model.specs.declared.reply.Reply.TheVariants.{Ok, Msg}
+use Rattle.plain_model.specs.Tables.{apply}
 use Rattle.plain_model.specs.Journal.{Opening}
-use Rattle.plain_model.specs.State.{Plain, Snap, Session, session, is_suspect, is_source, is_snap, see, committed, copy, master}
-use Rattle.plain_model.specs.Holding.{holds, held, same_lock, covers}
-use Rattle.plain_model.specs.Meaning.{plain, at_place, shape, change_and_reply}
-use Rattle.plain_model.specs.Next.{Next, Replies, Wants, unless, unless_shape, waits, under, answers, no_write, next_change, next_create, next_select, next_built, next_of, is_built}
-use Rattle.plain_model.specs.Free.{IsFree, NoMemory, NoRoom, is_of_tables, may_grow, is_success, reads_suspect}
+use Rattle.plain_model.specs.State.{Plain, Snap, session, is_suspect, is_source, see, committed}
+use Rattle.plain_model.specs.Holding.{holds}
+use Rattle.plain_model.specs.Meaning.{plain, shape, change_and_reply}
+use Rattle.plain_model.specs.Next.{Next, Replies, Wants, unless, unless_shape, under, answers, no_write, next_built, next_of, is_built}
+use Rattle.plain_model.specs.Free.{NoRoom, may_grow, is_success}
 use Rattle.engine_core.specs.declared.answer.Answer.TheVariants.{AtOnce, UnderAll, UnderTable}
-use Rattle.engine_core.specs.Ready.{Locks, Seen, Ready, Allowed, Comes}
+use Rattle.engine_core.specs.Ready.{Locks, Seen, Ready, Comes}
 use Rattle.engine_core.proofs.PushLemmas.{bytes_same}
 
 -- UNDER LOCKS
@@ -60,9 +59,6 @@ module _ (opening : Opening) (current : List ℕ) (seen : Seen) (st : Plain) (k 
     -- a change of the source isn't refused for where it is
     pub may_write : (next : Next) → unless (no_write st k) next ≡ next
     may_write next = let a = not_lost in let b = in_source in rw (a, b) refl
-
-
-
 
 own_lock : (name : List ℕ) (mode : Mode) (rest : Locks) → holds ((Table name, mode) ∷ rest) (Table name) mode ≡ true
 own_lock name S rest = rw (bytes_same name) refl
@@ -114,8 +110,8 @@ module _ (opening : Opening) (current : List ℕ) (seen : Seen) (snaps : List Sn
   shape_comes m e = (
     first_lock,
     λ st k ready. inl (built st k stmt of.built ∙ of.next opening current seen st k ((All, S) ∷ []) ready here
-    ∙ had opening current seen st k ((All, S) ∷ []) ready All S (unless_shape (shape stmt seen.source) (under st k (Table table) mode (answers stmt seen.source))) refl
-    ∙ ap (λ o. unless_shape o (under st k (Table table) mode (answers stmt seen.source))) e),
+        ∙ had opening current seen st k ((All, S) ∷ []) ready All S (unless_shape (shape stmt seen.source) (under st k (Table table) mode (answers stmt seen.source))) refl
+        ∙ ap (λ o. unless_shape o (under st k (Table table) mode (answers stmt seen.source))) e),
   )
 
   second_lock : shape stmt seen.source ≡ None → (st : Plain) (k : ℕ) → Ready opening current seen st k ((All, S) ∷ []) → next_of st k (Some stmt) ≡ Wants (Table table) mode

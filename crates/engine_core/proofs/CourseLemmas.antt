@@ -1,48 +1,47 @@
 -- A session's step keeps what always holds of the engine, whichever course its statement takes.
-use Rattle.std.proofs.Common.{◌≡◌, ◌≢◌, ◌+◌, ◌-◌, ◌*◌, ◌<◌, ◌≤◌, ◌⊎◌, inl, inr, ℕ, suc, zero, Bool, true, false, cond, IsTrue, List, [], ◌∷◌, ◌++◌, length, get_or, refl, ap, sym, ◌∙◌, subst, arith}
+use Rattle.std.proofs.Common.{◌≡◌, ◌≢◌, ◌+◌, ◌<◌, ◌≤◌, ◌⊎◌, inl, inr, ℕ, Bool, true, false, cond, IsTrue, List, [], length, get_or, refl, ap, sym, ◌∙◌, subst, arith}
 use Rattle.std.proofs.Math.ListN.{set}
 use Rattle.std.specs.Prelude.{Option, Some, None, slice_get}
 use Rattle.std.specs.FinMap as finite
 use Rattle.std.proofs.lemmas.Option.{slice_get-get_or, get_or_from_slice_get}
-use Rattle.page_base.specs.declared.numbers.PageId.{PageId}
 use Rattle.page_base.specs.declared.numbers.SnapNo.{SnapNo}
 use Rattle.plain_model.specs.declared.stmt.Stmt.{Stmt}
-use Rattle.plain_model.specs.declared.stmt.Stmt.TheVariants.{Select, Broken}
+use Rattle.plain_model.specs.declared.stmt.Stmt.TheVariants.{Select, CreateSnap, Broken}
 use Rattle.plain_model.specs.declared.stmt.SelectStmt.{SelectStmt}
-use Rattle.plain_model.specs.declared.event.Event.{Event}
+use Rattle.plain_model.specs.declared.stmt.SnapFile.{SnapFile}
 use Rattle.plain_model.specs.declared.reply.Reply.{Reply}
 use Rattle.plain_model.specs.declared.reply.Reply.TheVariants.{Msg, Rows, Count}
 use Rattle.plain_model.specs.declared.reply.Reply.TheVariants.{Ok as Fine}
 use Rattle.plain_model.specs.Tables.{Table, Tables}
 use Rattle.plain_model.specs.State.{committed, copy}
-use Rattle.plain_model.specs.Meaning.{plain, shape, select_shape}
-use Rattle.plain_model.specs.Next.{Next, Replies, unless_shape, answers, is_built}
+use Rattle.plain_model.specs.Meaning.{plain, shape}
+use Rattle.plain_model.specs.Next.{Replies, unless_shape, answers, is_built}
 use Rattle.snap_pages.specs.declared.state.SnapState.{SnapState}
 use Rattle.snap_pages.specs.declared.state.SnapState.TheVariants.{Making, Online, Suspect}
-use Rattle.snap_pages.specs.Catalog.{IsCatalog, IsNamed, HasSnap, snap_at}
-use Rattle.snap_pages.specs.Shown.{Shown, img, counts, catalog, IsOpen, state_of}
+use Rattle.snap_pages.specs.Catalog.{IsCatalog}
+use Rattle.snap_pages.specs.Shown.{Shown, img, catalog, IsOpen, state_of}
 use Rattle.snap_pages.specs.Views.{view, IsKept}
 use Rattle.table_pages.specs.declared.edit.Edit.{Edit}
-use Rattle.table_pages.specs.Carried.{data_pages, Carries}
+use Rattle.table_pages.specs.Carried.{data_pages}
 use Rattle.engine_core.specs.declared.seat.Seat.{Seat}
 use Rattle.engine_core.specs.declared.answer.Answer.{Answer}
 use Rattle.engine_core.specs.declared.answer.Answer.TheVariants.{AtOnce, UnderAll, UnderTable}
+use Rattle.engine_core.specs.declared.course.Course.{Course}
 use Rattle.engine_core.specs.declared.decision.Decision.{Decision}
 use Rattle.engine_core.specs.declared.database.Database.TheVariants.{Snap}
-use Rattle.engine_core.specs.Databases.{Means, is_lost}
+use Rattle.engine_core.specs.Databases.{Means}
 use Rattle.engine_core.specs.Entering.{Kept}
 use Rattle.engine_core.specs.Pushing.{is_suspect, snaps_of, sound, name_of, Pushes}
 use Rattle.engine_core.specs.Ready.{Seen, Comes, reply_of}
 use Rattle.engine_core.specs.Stepping.{tables_after, current_after, IsPlain}
 use Rattle.engine_core.specs.Seeing.{selected}
-use Rattle.engine_core.specs.Deciding.{AreApart, Setting, IsDecision, IsStill, IsSeeing}
-use Rattle.engine_core.specs.Safe.{Run, Disk, state, seen_by, seat_at, no_seat, script_at, AreInts, AreTables, dues, Safe}
+use Rattle.engine_core.specs.Deciding.{AreApart, Setting, IsDecision, IsStill, IsSeeing, IsCut, IsCourse}
+use Rattle.engine_core.specs.Safe.{Run, Disk, state, seen_by, seat_at, no_seat, script_at, AreInts, AreTables, Safe}
 use Rattle.engine_core.specs.Doing.{Does}
-use Rattle.engine_core.specs.Steps.{next_stmt, HasNext, Goes, Steps, Says}
+use Rattle.engine_core.specs.Steps.{next_stmt, HasNext, Says}
 use Rattle.engine_core.proofs.AtOnce.{memory_comes, select_lost, select_comes}
 use Rattle.engine_core.proofs.SeatLemmas.{dues_set}
 use Rattle.engine_core.proofs.SafeLemmas.{safe_statement, same_tables, same_pages}
-use Rattle.engine_core.proofs.PushLemmas.{leaves_of}
 
 -- WHAT COMES WHERE SNAPSHOTS TURNED MEANWHILE
 
@@ -80,6 +79,11 @@ lost_or_not Suspect = inl refl
 -- the seat that was read is the session's
 pub seat_read : (e : Run) → Safe e → (i : ℕ) → i < length e.scripts → (seat : Seat) → seat ≡ get_or e.seats i seat → seat ≡ seat_at e i
 seat_read e safe i lt seat is = is ∙ sym (get_or_from_slice_get e.seats i (get_or e.seats i seat) no_seat (slice_get-get_or e.seats i seat (let s = safe.sessions.seats in omega (arith, s, lt))))
+
+-- only CREATE DATABASE makes a snapshot
+pub cut_only : (stmt : Stmt) → IsCut stmt → ((snap : List ℕ) (files : List SnapFile) (of : List ℕ) → stmt ≡ CreateSnap snap files of → ⊥) → ⊥
+cut_only (CreateSnap snap files of) h not = not snap files of refl
+cut_only stmt h not = h
 
 module _ (e : Run) (safe : Safe e) (i : ℕ) (next : HasNext e i) where
   -- the session hasn't left
@@ -130,6 +134,15 @@ module _ (e : Run) (safe : Safe e) (i : ℕ) (next : HasNext e i) where
   pub own_stmt : (seat : Seat) (stmt : Stmt) → seat ≡ seat_at e i → slice_get (script_at e i) seat.said ≡ Some stmt → next_stmt e i ≡ stmt
   own_stmt seat stmt is there = ap (λ (s : Seat). get_or (script_at e i) s.said (Broken 0)) (sym is) ∙ get_or_from_slice_get (script_at e i) seat.said stmt (Broken 0) there
 
+  -- the seat behind a statement that leaves the current database
+  pub seat_next : (seat : Seat) → seat ≡ seat_at e i → ◌≡◌ {A = Seat} (record { current = (seat_at e i).current; said = (seat_at e i).said + 1; gone = false }) (record { current = seat.current; said = seat.said + 1; gone = seat.gone })
+  seat_next seat is = ap (λ (b : Bool). record { current = (seat_at e i).current; said = (seat_at e i).said + 1; gone = b }) (sym here) ∙ ap (λ (s : Seat). record { current = s.current; said = s.said + 1; gone = s.gone }) (sym is)
+
+  -- the course that was chosen is the next statement's
+  pub course_is : (seat : Seat) (stmt : Stmt) (course : Course) → seat ≡ seat_at e i → next_stmt e i ≡ stmt → IsCourse e.opening seat.current e.shown (seen_by (state e)) stmt course → IsCourse e.opening (seat_at e i).current e.shown (seen_by (state e)) (next_stmt e i) course
+  course_is seat stmt course seat_is stmt_is h =
+      subst (λ (x : Stmt). IsCourse e.opening (seat_at e i).current e.shown (seen_by (state e)) x course) (sym stmt_is) (subst (λ (s : Seat). IsCourse e.opening s.current e.shown (seen_by (state e)) stmt course) seat_is h)
+
   -- the session alone moved
   pub says_so : (old : Run) → e ≡ old → (disk : Disk) → disk.told ≡ e.disk.told → e.disk.failures ≤ disk.failures → e.disk.file_failures ≤ disk.file_failures → (v : Shown) (kept : Kept) (seat : Seat) → seat ≡ seat_at e i →
       Says old (record e { disk = disk; shown = v; seats = set e.seats i (record { current = seat.current; said = seat.said + 1; gone = seat.gone }); kept = kept }) i
@@ -137,9 +150,10 @@ module _ (e : Run) (safe : Safe e) (i : ℕ) (next : HasNext e i) where
       subst (λ (r : Run). Says r (record e { disk = disk; shown = v; seats = set e.seats i (record { current = seat.current; said = seat.said + 1; gone = seat.gone }); kept = kept }) i) is (record {
         current = seat.current;
         steps = record {
+          within = within;
           goes = record { opening = refl; scripts = refl; told = told; failures = failures; file_failures = file_failures };
           seats = ap (set e.seats i) (ap (λ (s : Seat). record { current = seat.current; said = s.said + 1; gone = seat.gone }) seat_is
-            ∙ ap (λ (b : Bool). record { current = seat.current; said = (seat_at e i).said + 1; gone = b }) (ap (λ (s : Seat). s.gone) seat_is ∙ here));
+              ∙ ap (λ (b : Bool). record { current = seat.current; said = (seat_at e i).said + 1; gone = b }) (ap (λ (s : Seat). s.gone) seat_is ∙ here));
         };
       })
 
@@ -157,10 +171,10 @@ module _ (e : Run) (safe : Safe e) (i : ℕ) (next : HasNext e i) where
         Safe (record e { shown = v; seats = set e.seats i (record { current = after; said = seat.said + 1; gone = false }); kept = kept })
     safe_answer seat stmt after seat_is stmt_is is =
         let cur : current_after (next_stmt e i) (reply_of d.answer) (seat_at e i).current ≡ after =
-              ap (λ (x : Stmt). current_after x (reply_of d.answer) (seat_at e i).current) stmt_is ∙ ap (λ (s : Seat). current_after stmt (reply_of d.answer) s.current) (sym seat_is) ∙ sym is in
+        ap (λ (x : Stmt). current_after x (reply_of d.answer) (seat_at e i).current) stmt_is ∙ ap (λ (s : Seat). current_after stmt (reply_of d.answer) s.current) (sym seat_is) ∙ sym is in
         subst (λ (k : Seat). Safe (record e { shown = v; seats = set e.seats i k; kept = kept }))
-          (ap (λ (c : List ℕ). record { current = c; said = (seat_at e i).said + 1; gone = false }) cur ∙ ap (λ (s : Seat). record { current = after; said = s.said + 1; gone = false }) (sym seat_is))
-          safe_answer'
+        (ap (λ (c : List ℕ). record { current = c; said = (seat_at e i).said + 1; gone = false }) cur ∙ ap (λ (s : Seat). record { current = after; said = s.said + 1; gone = false }) (sym seat_is))
+        safe_answer'
 
   -- A SELECT IN A SNAPSHOT
 
@@ -198,13 +212,13 @@ module _ (e : Run) (safe : Safe e) (i : ℕ) (next : HasNext e i) where
 
     comes_now : IsTrue e.disk.told → Answer_comes reply
     comes_now told = elim (lost_or_not (state_of v s)) [
-        | inl is ↦ subst Answer_comes (sym (lost is)) (select_lost e.opening current seen (catalog v) ordered apart_now (Snap s) means_now seeing.select (subst (λ (x : Stmt). is_built x ≡ true) seeing.is seeing.built) refl refl (ap is_suspect is))
-        | inr ne ↦ elim (replies (kept_now told ne.0) (copy (state e) current) (tables_now (kept_now told ne.0))) [
-          | inl none ↦ subst Answer_comes (sym none) (memory_comes e.opening current seen (catalog v) ordered apart_now (Snap s) means_now (Select seeing.select) refl ne.1)
-          | inr rows ↦ select_comes e.opening current seen (catalog v) ordered apart_now (Snap s) means_now seeing.select reply (subst (λ (x : Stmt). is_built x ≡ true) seeing.is seeing.built) refl refl ne.1
-              (select_means seeing.select (copy (state e) current) ∙ ap Replies (ap (λ (n : List ℕ). selected n (copy (state e) current)) seeing.table ∙ sym rows))
-        ]
+      | inl is ↦ subst Answer_comes (sym (lost is)) (select_lost e.opening current seen (catalog v) ordered apart_now (Snap s) means_now seeing.select (subst (λ (x : Stmt). is_built x ≡ true) seeing.is seeing.built) refl refl (ap is_suspect is))
+      | inr ne ↦ elim (replies (kept_now told ne.0) (copy (state e) current) (tables_now (kept_now told ne.0))) [
+        | inl none ↦ subst Answer_comes (sym none) (memory_comes e.opening current seen (catalog v) ordered apart_now (Snap s) means_now (Select seeing.select) refl ne.1)
+        | inr rows ↦ select_comes e.opening current seen (catalog v) ordered apart_now (Snap s) means_now seeing.select reply (subst (λ (x : Stmt). is_built x ≡ true) seeing.is seeing.built) refl refl ne.1
+            (select_means seeing.select (copy (state e) current) ∙ ap Replies (ap (λ (n : List ℕ). selected n (copy (state e) current)) seeing.table ∙ sym rows))
       ]
+    ]
 
     stays : tables_after (next_stmt e i) reply (committed (state e)) ≡ committed (state e)
     stays = ap (λ (x : Stmt). tables_after x reply (committed (state e))) seeing.is ∙ select_stays seeing.select reply (committed (state e))

@@ -1,5 +1,5 @@
 -- Decisions of each kind.
-use Rattle.std.proofs.Common.{◌≡◌, ◌≢◌, ◌+◌, ◌<◌, ◌≤◌, ◌⊎◌, inl, inr, ℕ, Bool, true, false, ◌&&◌, nat_eq, nat_le, cond, List, [], ◌∷◌, length, map, refl, ap, sym, ◌∙◌, subst, arith}
+use Rattle.std.proofs.Common.{◌≡◌, ◌<◌, ℕ, Bool, true, false, ◌&&◌, cond, List, [], ◌∷◌, length, map, refl, ap, sym, ◌∙◌, subst, arith}
 use Rattle.std.specs.Prelude.{Option, Some, None, ◌==◌, unwrap_or, is_none}
 use Rattle.std.specs.List.{list_all, list_any}
 use Rattle.std.specs.Ordering.{nat_cmp, is_eq}
@@ -209,7 +209,7 @@ module _ (opening : Opening) (v : Shown) (seen : Seen) (setting : Setting openin
       update_made edits count keyless counted plan =
           let shaped : shape (Update u) seen.source ≡ None = ap (update_shape u) there ∙ (rw (all, keyless) refl) in
           let meant : change_and_reply (Update u) seen.source ≡ (map (Put u.table) (updated_rows u.sets t), Count (length (updated_rows u.sets t))) =
-            ap (λ o. let x = updated_rows u.sets (unwrap_or o (record { cols = []; rows = finite.empty })) in (map (Put u.table) x, Count (length x))) there in
+          ap (λ o. let x = updated_rows u.sets (unwrap_or o (record { cols = []; rows = finite.empty })) in (map (Put u.table) x, Count (length x))) there in
           let replied : (change_and_reply (Update u) seen.source).1 ≡ Count count = ap (λ (r : List Change × Reply). r.1) meant ∙ ap Count (length-map (rows_of t) (with_sets u.sets t.cols) ∙ sym counted) in
           let changes : tables_after (Update u) (Count count) seen.source ≡ apply (map (Put u.table) (updated_rows u.sets t)) seen.source = ap (λ (r : List Change × Reply). apply r.0 seen.source) meant in
           record {

@@ -1,5 +1,5 @@
 -- An edit of a source page behind its pushes.
-use Rattle.std.proofs.Common.{◌≡◌, ◌≤◌, ℕ, List, arith, cond, inl, inr, refl, ap, sym, ◌∙◌, subst, Result, Ok, Err}
+use Rattle.std.proofs.Common.{◌≡◌, ◌≤◌, ℕ, List, arith, cond, inl, inr, ap, sym, ◌∙◌, subst, Result, Ok, Err}
 use Rattle.std.specs.Prelude.{OnOk, IfErr}
 use Rattle.page_base.specs.declared.numbers.PageId.{PageId}
 use Rattle.page_base.specs.Pages.{set_at}

@@ -1,6 +1,6 @@
 -- An engine at its beginning.
-use Rattle.std.proofs.Common.{◌≡◌, ◌≢◌, ◌+◌, ◌-◌, ◌*◌, ◌<◌, ◌≤◌, ◌⊎◌, inl, inr, ℕ, suc, zero, Bool, true, false, cond, IsTrue, List, [], ◌∷◌, ◌++◌, length, map, get_or, replicate, refl, ap, sym, ◌∙◌, subst, arith}
-use Rattle.std.specs.Prelude.{Option, Some, None, sum_by}
+use Rattle.std.proofs.Common.{◌≡◌, ◌+◌, ◌*◌, ◌<◌, ◌≤◌, inr, ℕ, suc, zero, true, false, List, [], ◌∷◌, length, map, get_or, replicate, refl, ap, sym, ◌∙◌, subst, arith}
+use Rattle.std.specs.Prelude.{Some, None, sum_by}
 use Rattle.std.specs.List.{list_any, filter_map, flat_map}
 use Rattle.std.specs.Str.{bytes_eq}
 use Rattle.std.specs.FinMap as finite
@@ -10,31 +10,29 @@ use Rattle.std.specs.Cmp.Lexicographic.{slice_cmp}
 use Rattle.std.proofs.lemmas.List.Sums.{sum_by-cons}
 use Rattle.std.proofs.lemmas.Map.Text.{is_eq-slice_cmp}
 use Rattle.std.proofs.lemmas.List.{get_or-map, length-map}
-use Rattle.page_base.specs.declared.numbers.PageId.{PageId}
 use Rattle.page_base.specs.declared.numbers.SnapNo.{SnapNo}
 use Rattle.page_base.specs.Pages.{blank}
 use Rattle.page_dev.specs.Volume.{Folder}
 use Rattle.page_fmt.specs.Content.{IsPage}
 use Rattle.page_fmt.proofs.CallerLemmas.{IsPage-blank}
 use Rattle.plain_model.specs.declared.stmt.Stmt.{Stmt}
-use Rattle.plain_model.specs.Tables.{Table, Tables}
-use Rattle.plain_model.specs.State.{Session, fresh_session, master, start, opened_snap, committed}
+use Rattle.plain_model.specs.Tables.{Tables}
+use Rattle.plain_model.specs.State.{fresh_session, master, start, opened_snap, committed}
 use Rattle.plain_model.specs.Journal.{Opening}
 use Rattle.plain_model.specs.Legal.{Legal, end}
 use Rattle.plain_model.specs.Complete.{mark_of}
 use Rattle.plain_model.specs.Sound.{AreScripts, are_distinct}
-use Rattle.snap_pages.specs.declared.state.SnapState.TheVariants.{Suspect}
 use Rattle.snap_pages.specs.Catalog.{empty, Catalog, snap_at}
-use Rattle.snap_pages.specs.Shown.{Shown, img, counts, catalog, IsOpen}
+use Rattle.snap_pages.specs.Shown.{img, counts, catalog, IsOpen}
 use Rattle.snap_pages.specs.Slots.{slots_of}
 use Rattle.snap_pages.specs.Views.{IsKept}
 use Rattle.table_pages.specs.Carried.{data_pages}
 use Rattle.table_pages.proofs.CallerLemmas.{blank_slots, blank_tables, blank_packed}
 use Rattle.engine_core.specs.declared.seat.Seat.{Seat}
 use Rattle.engine_core.specs.Opened.{names_of, new_source}
-use Rattle.engine_core.specs.Pushing.{plainly, snaps_of, sound, weight}
+use Rattle.engine_core.specs.Pushing.{plainly, sound, weight}
 use Rattle.engine_core.specs.Stepping.{idle}
-use Rattle.engine_core.specs.Safe.{Run, Disk, state, seat_at, no_seat, script_at, InStep, AreSeated, AreCopies, AreOut, AreBlamed, AreInts, marks_of, is_turn, HasRoom, AreTables, dues, Safe}
+use Rattle.engine_core.specs.Safe.{Run, state, seat_at, no_seat, InStep, AreSeated, AreCopies, AreOut, AreBlamed, AreInts, marks_of, is_turn, HasRoom, AreTables, dues, Safe}
 
 -- the names of a folder are those that have a place there
 pub names_there : (folder : Folder) (name : List ℕ) → finite.contains_key folder name ≡ list_any (bytes_eq name) (names_of folder)

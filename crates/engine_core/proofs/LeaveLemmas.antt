@@ -1,10 +1,10 @@
 -- A session that leaves.
-use Rattle.std.proofs.Common.{◌≡◌, ◌≢◌, ◌+◌, ◌-◌, ◌*◌, ◌<◌, ◌≤◌, ◌⊎◌, inl, inr, ℕ, suc, zero, Bool, true, false, ◌||◌, cond, IsTrue, List, [], ◌∷◌, ◌++◌, length, map, get_or, refl, ap, sym, ◌∙◌, subst, arith, length-append, append-nil, eq-eqb, nat_eq}
+use Rattle.std.proofs.Common.{◌≡◌, ◌+◌, ◌-◌, ◌<◌, ◌⊎◌, inl, inr, ℕ, Bool, true, false, cond, List, [], ◌∷◌, ◌++◌, length, map, get_or, refl, ap, sym, ◌∙◌, subst, arith, length-append, append-nil, eq-eqb, nat_eq}
 use Rattle.std.proofs.Math.ListN.{set}
 use Rattle.std.proofs.lemmas.Bool.{ne_eqb}
 use Rattle.std.proofs.lemmas.Option.{slice_get_past}
 use Rattle.std.proofs.lemmas.List.Folds.{list_any-append}
-use Rattle.std.specs.Prelude.{Option, Some, None, slice_get}
+use Rattle.std.specs.Prelude.{None, slice_get}
 use Rattle.std.specs.List.{filter_map, range_with_len, list_any}
 use Rattle.std.specs.Str.{bytes_eq}
 use Rattle.std.specs.FinMap as finite
@@ -14,19 +14,19 @@ use Rattle.plain_model.specs.declared.event.Event.TheVariants.{Left}
 use Rattle.plain_model.specs.Tables.{Tables}
 use Rattle.plain_model.specs.State as plain
 use Rattle.plain_model.specs.State.{Plain, Session, fresh_session, session, stmt_of, is_session, committed, copy, master}
-use Rattle.plain_model.specs.Legal.{Legal, MayCome, after, end, end_from}
+use Rattle.plain_model.specs.Legal.{MayCome, after}
 use Rattle.plain_model.specs.Complete.{Mark, Answered, Gone, mark_of}
-use Rattle.snap_pages.specs.Shown.{Shown, img, IsOpen}
-use Rattle.snap_pages.specs.Views.{view, IsKept}
+use Rattle.snap_pages.specs.Shown.{img}
+use Rattle.snap_pages.specs.Views.{view}
 use Rattle.table_pages.specs.Carried.{data_pages}
 use Rattle.engine_core.specs.declared.seat.Seat.{Seat}
-use Rattle.engine_core.specs.Entering.{Kept, entered}
-use Rattle.engine_core.specs.Pushing.{sound, name_of}
+use Rattle.engine_core.specs.Entering.{entered}
+use Rattle.engine_core.specs.Pushing.{name_of}
 use Rattle.engine_core.specs.Stepping.{number, idle, Around}
-use Rattle.engine_core.specs.Safe.{Run, state, seat_at, script_at, InStep, AreSeated, IsSeated, marks_of, AreInts, AreTables, AreCopies, AreOut, is_turn, AreBlamed, dues, HasRoom, Safe}
+use Rattle.engine_core.specs.Safe.{Run, state, seat_at, script_at, InStep, AreSeated, IsSeated, marks_of, AreInts, AreTables, AreCopies, AreOut, is_turn, AreBlamed, HasRoom, Safe}
 use Rattle.engine_core.proofs.Stepping.{legal_append, end_append}
 use Rattle.engine_core.proofs.SafeLemmas.{either}
-use Rattle.engine_core.proofs.SeatLemmas.{around, session_is, Seats, seated_next, dues_set}
+use Rattle.engine_core.proofs.SeatLemmas.{around, session_is, seated_next, dues_set}
 
 module _ (e : Run) (safe : Safe e) (i : ℕ) (lt : i < length e.scripts) (here : (seat_at e i).gone ≡ false) (all : (seat_at e i).said ≡ length (script_at e i)) where
   abbrev said : ℕ

@@ -19,3 +19,4 @@ mod Cutting
 mod CutSafe
 mod NameLemmas
 mod CloseLemmas
+mod EndLemmas

@@ -1,6 +1,6 @@
 -- What the plain machine says of a database's name, by where the catalog finds it.
-use Rattle.std.proofs.Common.{◌≡◌, ◌≢◌, ◌<◌, ◌⊎◌, inl, inr, ℕ, suc, zero, Bool, true, false, ◌&&◌, ◌||◌, not, cond, List, [], ◌∷◌, length, map, get_or, refl, ap, sym, ◌∙◌, subst, arith}
-use Rattle.std.specs.Prelude.{Option, Some, None, is_some}
+use Rattle.std.proofs.Common.{◌≡◌, ◌≢◌, ◌<◌, inl, inr, ℕ, Bool, true, false, ◌&&◌, ◌||◌, List, [], ◌∷◌, length, map, get_or, refl, ap, sym, ◌∙◌, arith}
+use Rattle.std.specs.Prelude.{is_some}
 use Rattle.std.specs.List.{find, list_any}
 use Rattle.std.specs.Str.{bytes_eq}
 use Rattle.std.proofs.lemmas.Bool.{cases_eq, cases_lt}
@@ -9,7 +9,7 @@ use Rattle.std.proofs.lemmas.List.Folds.{list_any_none, list_any_at}
 use Rattle.page_base.specs.declared.numbers.SnapNo.{SnapNo}
 use Rattle.plain_model.specs.State as plain
 use Rattle.plain_model.specs.State.{Plain, is_snap, is_suspect}
-use Rattle.snap_pages.specs.Catalog.{Snap, Catalog, no_snap, snap_at, HasSnap, IsCatalog, LacksName, IsNamed}
+use Rattle.snap_pages.specs.Catalog.{Catalog, no_snap, snap_at, IsCatalog, LacksName, IsNamed}
 use Rattle.engine_core.specs.Pushing as pushing
 use Rattle.engine_core.specs.Pushing.{plainly}
 use Rattle.engine_core.proofs.PushLemmas.{bytes_same, bytes_ne, is_some_found}

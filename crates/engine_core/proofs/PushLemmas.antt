@@ -1,5 +1,5 @@
 -- Pushes, one after the other, and the turns that they enter.
-use Rattle.std.proofs.Common.{◌≡◌, ◌≢◌, ◌≤◌, ◌<◌, ℕ, suc, zero, ◌+◌, ◌-◌, ◌⊎◌, inl, inr, Bool, true, false, cond, IsTrue, ◌&&◌, not, List, [], ◌∷◌, ◌++◌, length, map, get_or, refl, ap, sym, ◌∙◌, subst, arith, append_assoc, append-nil, length-append, length-set, min, ◌^◌}
+use Rattle.std.proofs.Common.{◌≡◌, ◌≢◌, ◌≤◌, ◌<◌, ℕ, suc, zero, ◌+◌, ◌-◌, ◌⊎◌, inl, inr, Bool, true, false, cond, IsTrue, ◌&&◌, not, List, [], ◌∷◌, ◌++◌, length, map, get_or, refl, ap, sym, ◌∙◌, subst, arith, append_assoc, append-nil, length-append, length-set}
 use Rattle.std.proofs.Math.ListN.{set}
 use Rattle.std.proofs.Math.Seq.{map-set_same}
 use Rattle.std.specs.List.{AllByRecursion, find, list_any}
@@ -240,8 +240,8 @@ module _ (v w : Shown) (s : SnapNo) (x : Snap) (has : IsOpen v s) (catalog : IsC
   turned_snaps =
       map_map plainly (turned (name_of v s)) xs
       ∙ map_but (λ y. turned (name_of v s) (plainly y)) plainly no_snap xs s.0 x
-        (λ j lt ne. rw (other_name j lt ne) refl) has
-        (rw (bytes_same (name_of v s)) (let n = sym like.name in let f = sym like.files in let k = sym like.cut in let l : true ≡ is_suspect x.state = sym (ap is_suspect lost) in λ i. record { name = n i; files = f i; cut = k i; suspect = l i }))
+      (λ j lt ne. rw (other_name j lt ne) refl) has
+      (rw (bytes_same (name_of v s)) (let n = sym like.name in let f = sym like.files in let k = sym like.cut in let l : true ≡ is_suspect x.state = sym (ap is_suspect lost) in λ i. record { name = n i; files = f i; cut = k i; suspect = l i }))
       ∙ ap snaps_of (sym is)
 
   one_place : (j : ℕ) → j ≡ s.0 → get_or xs j no_snap ≡ snap_at (shown.catalog v) s
@@ -259,11 +259,11 @@ module _ (v w : Shown) (s : SnapNo) (x : Snap) (has : IsOpen v s) (catalog : IsC
       let lt : s.0 < length (snaps_of v) = simp length-map has in
       let at : (j : ℕ) (d : _) → j < length xs → get_or (snaps_of v) j d ≡ plainly (get_or xs j no_snap) = λ j d lt. get_or-map plainly xs j no_snap d lt in
       let there : is_some (find (λ y. bytes_eq y.name (name_of v s)) (snaps_of v)) ≡ true =
-        is_some_found (λ y. bytes_eq y.name (name_of v s)) (snaps_of v) s.0 (plainly no_snap) lt (rw (at s.0 (plainly no_snap) has) (bytes_same (name_of v s))) in
+      is_some_found (λ y. bytes_eq y.name (name_of v s)) (snaps_of v) s.0 (plainly no_snap) lt (rw (at s.0 (plainly no_snap) has) (bytes_same (name_of v s))) in
       let sound : list_any (λ y. bytes_eq y.name (name_of v s) && y.suspect) (snaps_of v) ≡ false =
-        list_any_none (λ y. bytes_eq y.name (name_of v s) && y.suspect) (snaps_of v) (λ j d lt.
-          let l : j < length xs = simp length-map at lt in
-          rw (at j d l) (not_lost (get_or xs j no_snap) (elim (cases_eq j s.0) [ | inl same ↦ inl (one_place j same) | inr ne ↦ inr (other_name j l ne) ]))) in
+      list_any_none (λ y. bytes_eq y.name (name_of v s) && y.suspect) (snaps_of v) (λ j d lt.
+      let l : j < length xs = simp length-map at lt in
+      rw (at j d l) (not_lost (get_or xs j no_snap) (elim (cases_eq j s.0) [ inl same ↦ inl (one_place j same) | inr ne ↦ inr (other_name j l ne) ]))) in
       rw (e, there, sound) refl
 
   lost_now : state_of w s ≡ Suspect

@@ -1,10 +1,9 @@
 -- A statement keeps what always holds of the engine.
-use Rattle.std.proofs.Common.{◌≡◌, ◌≢◌, ◌+◌, ◌-◌, ◌*◌, ◌<◌, ◌≤◌, ◌⊎◌, inl, inr, ℕ, suc, zero, Bool, true, false, ◌&&◌, ◌||◌, nat_le, cond, IsTrue, List, [], ◌∷◌, ◌++◌, length, map, get_or, refl, ap, sym, ◌∙◌, subst, arith, length-set, length-append, append-nil, append_assoc}
+use Rattle.std.proofs.Common.{◌≡◌, ◌≢◌, ◌+◌, ◌-◌, ◌<◌, ◌≤◌, ◌⊎◌, inl, inr, ℕ, suc, Bool, true, false, ◌&&◌, ◌||◌, cond, IsTrue, List, [], ◌∷◌, ◌++◌, length, map, get_or, refl, ap, sym, ◌∙◌, subst, arith, length-append, append-nil}
 use Rattle.std.proofs.Math.ListN.{set}
-use Rattle.std.proofs.lemmas.Bool.{cases_eq, cases_lt}
-use Rattle.std.proofs.lemmas.List.{get_or_past, get_or-map, length-map}
+use Rattle.std.proofs.lemmas.List.{get_or-map, length-map}
 use Rattle.std.proofs.lemmas.List.Folds.{list_any_none, list_any-append}
-use Rattle.std.specs.Prelude.{Option, Some, None, slice_get}
+use Rattle.std.specs.Prelude.{Some, slice_get}
 use Rattle.std.specs.FinMap as finite
 use Rattle.std.proofs.lemmas.Option.{slice_get_within}
 use Rattle.std.proofs.lemmas.List.FromFn.{map-range_with_len_more}
@@ -15,35 +14,33 @@ use Rattle.page_base.specs.declared.numbers.PageId.{PageId}
 use Rattle.page_base.specs.declared.numbers.SnapNo.{SnapNo}
 use Rattle.plain_model.specs.declared.stmt.Stmt.{Stmt}
 use Rattle.plain_model.specs.declared.event.Event.{Event}
-use Rattle.plain_model.specs.declared.event.Event.TheVariants.{Turned, Said}
+use Rattle.plain_model.specs.declared.event.Event.TheVariants.{Said}
 use Rattle.plain_model.specs.declared.reply.Reply.{Reply}
 use Rattle.plain_model.specs.Tables.{Tables}
 use Rattle.plain_model.specs.Journal.{Opening, Entry, source}
 use Rattle.plain_model.specs.Journal as journal
 use Rattle.plain_model.specs.State as plain
 use Rattle.plain_model.specs.State.{Plain, Session, fresh_session, session, committed, copy, master}
-use Rattle.plain_model.specs.Legal.{LegalFrom, Legal, end, end_from}
+use Rattle.plain_model.specs.Legal.{Legal, end}
 use Rattle.plain_model.specs.Complete.{Mark, Answered, Gone, mark_of}
 use Rattle.plain_model.specs.Sound.{are_distinct}
-use Rattle.snap_pages.specs.declared.state.SnapState.{SnapState}
 use Rattle.snap_pages.specs.declared.state.SnapState.TheVariants.{Suspect}
 use Rattle.snap_pages.specs.Catalog.{Snap, snap_at, no_snap}
-use Rattle.snap_pages.specs.Shown.{Shown, img, counts, count, catalog, IsOpen, set_of, state_of}
-use Rattle.snap_pages.specs.Slots.{slots_of}
-use Rattle.snap_pages.specs.Views.{view, IsKept, KeepsViews}
+use Rattle.snap_pages.specs.Shown.{Shown, img, counts, count, catalog, IsOpen, state_of}
+use Rattle.snap_pages.specs.Views.{view}
 use Rattle.table_pages.specs.Carried.{data_pages}
 use Rattle.engine_core.specs.declared.seat.Seat.{Seat}
 use Rattle.engine_core.specs.declared.answer.Answer.{Answer}
 use Rattle.engine_core.specs.declared.answer.Answer.TheVariants.{AtOnce, UnderAll, UnderTable}
 use Rattle.engine_core.specs.Entering.{Kept}
-use Rattle.engine_core.specs.Pushing.{is_suspect, plainly, snaps_of, sound, name_of, faults_of, Alike, Leaves, IsTurn, StaysOrTurns}
+use Rattle.engine_core.specs.Pushing.{plainly, snaps_of, name_of, faults_of, Leaves, IsTurn}
 use Rattle.engine_core.specs.Ready.{Comes, reply_of, locks_of}
 use Rattle.engine_core.specs.Stepping.{number, idle, mid, first_of, lock_events, statement_events, tables_after, current_after, IsPlain, Around, is_lost, Moves}
-use Rattle.engine_core.specs.Safe.{Run, Disk, state, seen_by, seat_at, script_at, InStep, AreSeated, IsSeated, marks_of, AreInts, AreTables, AreCopies, sparse_names, AreOut, is_turn, AreBlamed, dues, HasRoom, Safe}
+use Rattle.engine_core.specs.Safe.{Run, state, seen_by, seat_at, script_at, InStep, AreSeated, IsSeated, marks_of, AreInts, AreTables, AreCopies, sparse_names, AreOut, is_turn, AreBlamed, HasRoom, Safe}
 use Rattle.engine_core.specs.Doing.{Does}
 use Rattle.engine_core.proofs.PushLemmas.{bytes_ne, still_lost}
 use Rattle.engine_core.proofs.Stepping.{Effects, effects_of, leads_all, legal_all, legal_append, end_append}
-use Rattle.engine_core.proofs.SeatLemmas.{around, session_is, Seats, seated_next, statement_marks, statement_unmarked, turns_unmarked, dues_set}
+use Rattle.engine_core.proofs.SeatLemmas.{around, session_is, seated_next, statement_marks, statement_unmarked, dues_set}
 
 -- NO SUSPECT SNAPSHOT HAS THE SOURCE'S NAME
 
@@ -183,7 +180,7 @@ module _ (e : Run) (safe : Safe e) (i : ℕ) (lt : i < length e.scripts) (here :
   legal_here told = subst (λ (es : List Event). Legal e.opening e.scripts es) (sym same_events)
       (legal_append (plain.start e.opening e.scripts) e.kept.events moved (safe.machine.legal told)
       (legal_all e.opening (state e) (i + 1) round said current false seated_here.since stmt here_is says_here (snaps_of v) does.turned moves_here answer (seen_by (state e)) lost_old (apart_names v e.opening.source names_new) over copied
-        (let o = seated_here.old in let m = at_moment in omega (arith, o, m)) (comes told)))
+      (let o = seated_here.old in let m = at_moment in omega (arith, o, m)) (comes told)))
 
   committed_is : committed (state next) ≡ tables_after stmt (reply_of answer) (committed (state e))
   committed_is = ap committed leads_here ∙ effect_here.tables
@@ -234,8 +231,8 @@ module _ (e : Run) (safe : Safe e) (i : ℕ) (lt : i < length e.scripts) (here :
     source = subst (λ (t : Tables). AreTables (data_pages v) (img v) t) (sym committed_is) tables;
     ints = subst AreInts (sym committed_is) ints;
     copies = λ s kept. let k = does.leaves.views.each s kept in
-      same_tables (data_pages e.shown) (data_pages v) (view e.shown s) (view v s) (copy (state e) (name_of e.shown s)) (copy (state next) (name_of v s)) (same_pages e.shown v does.leaves.counts) k.1
-      (copy_is (name_of v s) ∙ ap (copy (state e)) (name_same s)) (safe.pages.copies s k.0);
+        same_tables (data_pages e.shown) (data_pages v) (view e.shown s) (view v s) (copy (state e) (name_of e.shown s)) (copy (state next) (name_of v s)) (same_pages e.shown v does.leaves.counts) k.1
+        (copy_is (name_of v s) ∙ ap (copy (state e)) (name_same s)) (safe.pages.copies s k.0);
   }
 
   files_next : AreOut next

@@ -1,21 +1,17 @@
 -- The sessions of an engine, and the machine around one of them.
-use Rattle.std.proofs.Common.{◌≡◌, ◌≢◌, ◌+◌, ◌-◌, ◌*◌, ◌<◌, ◌≤◌, ◌⊎◌, inl, inr, ℕ, suc, zero, Bool, true, false, ◌&&◌, nat_le, nat_eq, cond, IsTrue, List, [], ◌∷◌, ◌++◌, length, map, get_or, refl, ap, sym, ◌∙◌, subst, arith, length-set, length-append, append-nil, append_assoc, eq-eqb}
+use Rattle.std.proofs.Common.{◌≡◌, ◌≢◌, ◌+◌, ◌-◌, ◌*◌, ◌<◌, ◌≤◌, inl, inr, ℕ, suc, zero, true, false, nat_eq, cond, List, [], ◌∷◌, ◌++◌, length, get_or, refl, ap, sym, ◌∙◌, subst, arith, length-set, length-append, append-nil, eq-eqb}
 use Rattle.std.proofs.Math.ListN.{set}
 use Rattle.std.proofs.lemmas.Bool.{cases_eq, cases_lt, le-leb, ne_eqb}
 use Rattle.std.proofs.lemmas.List.{get_or_past, get_or-set_same, get_or-set_other}
 use Rattle.std.proofs.lemmas.List.Elements.{filter_map-append}
-use Rattle.std.proofs.lemmas.List.FromFn.{map-range_with_len_more}
-use Rattle.std.specs.Prelude.{Option, Some, None, ◌==◌}
-use Rattle.std.specs.List.{filter_map, range_with_len, AllByRecursion}
-use Rattle.page_base.specs.declared.numbers.SessNo.{SessNo}
+use Rattle.std.specs.Prelude.{None}
+use Rattle.std.specs.List.{filter_map, AllByRecursion}
 use Rattle.plain_model.specs.declared.stmt.Stmt.{Stmt}
 use Rattle.plain_model.specs.declared.event.Event.{Event}
-use Rattle.plain_model.specs.declared.event.Event.TheVariants.{Locked, Said, Left, Turned, CutAt}
-use Rattle.plain_model.specs.declared.event.LockName.{LockName}
-use Rattle.plain_model.specs.declared.reply.Reply.{Reply}
-use Rattle.plain_model.specs.State.{Plain, Session, fresh_session, session, is_session}
+use Rattle.plain_model.specs.declared.event.Event.TheVariants.{Said}
+use Rattle.plain_model.specs.State.{Session, fresh_session, session}
 use Rattle.plain_model.specs.Sound.{AreScripts}
-use Rattle.plain_model.specs.Complete.{Mark, Answered, Gone, mark_of}
+use Rattle.plain_model.specs.Complete.{Mark, Answered, mark_of}
 use Rattle.snap_pages.specs.Shown.{Shown}
 use Rattle.engine_core.specs.declared.seat.Seat.{Seat}
 use Rattle.engine_core.specs.declared.answer.Answer.{Answer}
@@ -109,26 +105,26 @@ module _ (e e' : Run) (seated : AreSeated e) (i : ℕ) (lt : i < length e.script
   seated_one : (j : ℕ) → j < length e.scripts → IsSeated (seat_at e' j) (get_or (state e').sessions j fresh_session) (length e'.kept.events)
   seated_one j l = elim (cases_eq i j) [
     | inl same ↦ record {
-        since = goes.moment;
-        is = ap (λ (ss : List Session). get_or ss j fresh_session) goes.sessions ∙ ap (λ n. get_or (set (state e).sessions (i + 1 - 1) (idle seat.said seat.current seat.gone goes.moment)) n fresh_session) (sym same ∙ sym back)
-            ∙ get_or-set_same (state e).sessions (i + 1 - 1) (idle seat.said seat.current seat.gone goes.moment) fresh_session (let n = seated.sessions in omega (arith, n, lt))
-            ∙ ap (λ (t : Seat). idle t.said t.current t.gone goes.moment) (sym seat_here ∙ ap (seat_at e') same);
-        old = goes.now;
-      }
+      since = goes.moment;
+      is = ap (λ (ss : List Session). get_or ss j fresh_session) goes.sessions ∙ ap (λ n. get_or (set (state e).sessions (i + 1 - 1) (idle seat.said seat.current seat.gone goes.moment)) n fresh_session) (sym same ∙ sym back)
+          ∙ get_or-set_same (state e).sessions (i + 1 - 1) (idle seat.said seat.current seat.gone goes.moment) fresh_session (let n = seated.sessions in omega (arith, n, lt))
+          ∙ ap (λ (t : Seat). idle t.said t.current t.gone goes.moment) (sym seat_here ∙ ap (seat_at e') same);
+      old = goes.now;
+    }
     | inr ne ↦ let s = seated.each j l in record {
-        since = s.since;
-        is = ap (λ (ss : List Session). get_or ss j fresh_session) goes.sessions ∙ get_or-set_other (state e).sessions (i + 1 - 1) j (idle seat.said seat.current seat.gone goes.moment) fresh_session (λ is. ne (sym back ∙ sym is))
-            ∙ s.is ∙ ap (λ (t : Seat). idle t.said t.current t.gone s.since) (sym (seat_there j ne));
-        old = let o = s.old in let g = longer in omega (arith, o, g);
-      }
+      since = s.since;
+      is = ap (λ (ss : List Session). get_or ss j fresh_session) goes.sessions ∙ get_or-set_other (state e).sessions (i + 1 - 1) j (idle seat.said seat.current seat.gone goes.moment) fresh_session (λ is. ne (sym back ∙ sym is))
+          ∙ s.is ∙ ap (λ (t : Seat). idle t.said t.current t.gone s.since) (sym (seat_there j ne));
+      old = let o = s.old in let g = longer in omega (arith, o, g);
+    }
   ]
 
   marks_one : (j : ℕ) → j < length e.scripts → filter_map (mark_of (j + 1)) e'.kept.events ≡ marks_of (seat_at e' j)
   marks_one j l =
       let split : filter_map (mark_of (j + 1)) e'.kept.events ≡ filter_map (mark_of (j + 1)) e.kept.events ++ filter_map (mark_of (j + 1)) events =
-        ap (filter_map (mark_of (j + 1))) goes.more ∙ filter_map-append (mark_of (j + 1)) e.kept.events events in
+      ap (filter_map (mark_of (j + 1))) goes.more ∙ filter_map-append (mark_of (j + 1)) e.kept.events events in
       let old : filter_map (mark_of (j + 1)) e.kept.events ++ filter_map (mark_of (j + 1)) events ≡ marks_of (seat_at e j) ++ filter_map (mark_of (j + 1)) events =
-        ap (λ (ms : List Mark). ms ++ filter_map (mark_of (j + 1)) events) (seated.marks j l) in
+      ap (λ (ms : List Mark). ms ++ filter_map (mark_of (j + 1)) events) (seated.marks j l) in
       split ∙ old ∙ elim (cases_eq i j) [
         | inl same ↦ ap (λ n. marks_of (seat_at e n) ++ filter_map (mark_of (n + 1)) events) (sym same) ∙ goes.marks ∙ ap marks_of (sym seat_here ∙ ap (seat_at e') same)
         | inr ne ↦ ap (λ (ms : List Mark). marks_of (seat_at e j) ++ ms) (goes.others j ne) ∙ append-nil (marks_of (seat_at e j)) ∙ ap marks_of (sym (seat_there j ne))

@@ -1,8 +1,7 @@
 -- A reader of a snapshot goes over its pages.
-use Rattle.std.proofs.Common.{◌≡◌, ◌≢◌, ◌+◌, ◌-◌, ◌<◌, ◌≤◌, ◌⊎◌, inl, inr, ℕ, get_or, Bool, true, false, cond, List, [], refl, ap, sym, ◌∙◌, subst, arith}
-use Rattle.std.specs.Prelude.{Option, Some, None, ◌↔◌}
+use Rattle.std.proofs.Common.{◌≡◌, ◌≢◌, ◌+◌, ◌-◌, ◌<◌, ◌≤◌, ℕ, get_or, Bool, true, false, cond, List, [], refl, ap, sym, ◌∙◌, subst}
+use Rattle.std.specs.Prelude.{◌↔◌}
 use Rattle.std.specs.Str.{bytes_eq}
-use Rattle.std.specs.FinMap as finite
 use Rattle.page_base.specs.declared.numbers.PageId.{PageId}
 use Rattle.page_base.specs.declared.numbers.SnapNo.{SnapNo}
 use Rattle.page_fmt.specs.Content.{content, IsPage}
@@ -15,10 +14,10 @@ use Rattle.snap_pages.specs.declared.state.Place.{Place}
 use Rattle.snap_pages.specs.declared.state.Place.TheVariants.{Sparse, Through}
 use Rattle.snap_pages.specs.Sparse as sparse
 use Rattle.snap_pages.specs.Sparse.{is_copied}
-use Rattle.snap_pages.specs.Shown.{Shown, img, counts}
+use Rattle.snap_pages.specs.Shown.{Shown}
 use Rattle.snap_pages.specs.Slots.{slots_of}
 use Rattle.snap_pages.specs.Views.{seen, view, IsKept}
-use Rattle.table_pages.specs.Layout.{place, tables_of, Passed, IsOther}
+use Rattle.table_pages.specs.Layout.{place, Passed}
 use Rattle.table_pages.specs.Carried.{data_pages, Holds}
 use Rattle.table_pages.proofs.CallerLemmas.{passed_more, passed_all, passed_to_blank, found_named}
 use Rattle.engine_core.specs.Pushing.{Pushes}

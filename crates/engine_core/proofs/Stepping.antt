@@ -1,5 +1,5 @@
 -- What a statement's events do to the plain machine.
-use Rattle.std.proofs.Common.{◌≡◌, ◌≢◌, ◌+◌, ◌-◌, ◌<◌, ◌≤◌, ◌⊎◌, inl, inr, ℕ, suc, zero, Bool, true, false, ◌&&◌, not, nat_eq, nat_le, cond, IsTrue, List, [], ◌∷◌, ◌++◌, length, get_or, refl, ap, sym, ◌∙◌, subst, arith, length-set, length-append, eq-eqb}
+use Rattle.std.proofs.Common.{◌≡◌, ◌+◌, ◌-◌, ◌<◌, ◌≤◌, ◌⊎◌, inl, inr, ℕ, suc, zero, Bool, true, false, ◌&&◌, not, nat_eq, nat_le, cond, IsTrue, List, [], ◌∷◌, ◌++◌, length, get_or, refl, ap, sym, ◌∙◌, subst, arith, length-set, length-append, eq-eqb}
 use Rattle.std.specs.Prelude.{Option, Some, None, slice_get, unwrap_or, ◌==◌}
 use Rattle.std.proofs.Math.ListN.{set}
 use Rattle.std.proofs.lemmas.List.Folds.{list_any_none}
@@ -10,7 +10,7 @@ use Rattle.page_base.specs.declared.numbers.Mode.TheVariants.{S}
 use Rattle.plain_model.specs.declared.stmt.Stmt.{Stmt}
 use Rattle.plain_model.specs.declared.stmt.Stmt.TheVariants.{UseDb, CreateTable, Insert, Update, CreateSnap}
 use Rattle.plain_model.specs.declared.event.Event.{Event}
-use Rattle.plain_model.specs.declared.event.Event.TheVariants.{Locked, Said, Left}
+use Rattle.plain_model.specs.declared.event.Event.TheVariants.{Locked, Said}
 use Rattle.plain_model.specs.declared.event.LockName.{LockName}
 use Rattle.plain_model.specs.declared.event.LockName.TheVariants.{All, Table}
 use Rattle.plain_model.specs.declared.reply.Reply.{Reply}
@@ -33,7 +33,7 @@ use Rattle.engine_core.specs.Stepping.{number, idle, busy, mid, lock_events, fir
 pub holder_none : (j : ℕ) (ss : List Session) (k : ℕ) (name : LockName) (mode : Mode) → ((i : ℕ) → i < length ss → (j + i ≡ k) ⊎ ((get_or ss i fresh_session).locks ≡ [])) → holder_from j ss k name mode ≡ None
 holder_none j [] k name mode h = refl
 holder_none j (s ∷ ss) k name mode h =
-    let rest : holder_from (j + 1) ss k name mode ≡ None = holder_none (j + 1) ss k name mode (λ i lt. elim (h (suc i) (omega (arith, lt))) [ | inl e ↦ inl (omega (arith, e)) | inr e ↦ inr e ]) in
+    let rest : holder_from (j + 1) ss k name mode ≡ None = holder_none (j + 1) ss k name mode (λ i lt. elim (h (suc i) (omega (arith, lt))) [ inl e ↦ inl (omega (arith, e)) | inr e ↦ inr e ]) in
     let free : (not (nat_eq j k) && is_in_the_way s.locks name mode) ≡ false = elim (h 0 (omega arith)) [
       | inl e ↦ let same : nat_eq j k ≡ true = eq-eqb j k (omega (arith, e)) in rw same refl
       | inr e ↦ rw e (elim (not (nat_eq j k)) as (λ b. (b && false) ≡ false) [ true ↦ refl | false ↦ refl ])
@@ -81,7 +81,7 @@ module _ (st : Plain) (k : ℕ) (there : IsTrue (is_session st k)) where
       ap (λ (o : Option Stmt). counted (answered (effect (mid st k (busy said current gone since locks first making) j ss m) k o reply) k n)) says
       ∙ ap (λ (x : Plain). counted (answered x k n)) does
       ∙ ap (λ (t : Session). counted (record (with_session (mid base k s' j' ss' m) k (record t { said = n; making = None; locks = cond (t.depth == 0) [] t.locks; since = m + 1; first = None })) { restoring = without_restoring k base.restoring }))
-          (ap (λ (l : List Session). get_or (set l (k - 1) s') (k - 1) fresh_session) same ∙ get_or-set_same st.sessions (k - 1) s' fresh_session within)
+      (ap (λ (l : List Session). get_or (set l (k - 1) s') (k - 1) fresh_session) same ∙ get_or-set_same st.sessions (k - 1) s' fresh_session within)
       ∙ ap (λ (o : Option (ℕ × List ℕ)). counted (record (with_session (mid base k s' j' ss' m) k (idle n new gone (m + 1))) { restoring = without_restoring k o })) settled
       ∙ ap (λ (l : List Session). record (mid base k s' j' ss' (m + 1)) { sessions = l; restoring = None }) (set-set base.sessions (k - 1) s' (idle n new gone (m + 1)))
       ∙ ap (λ (o : Option (ℕ × List ℕ)). record (mid base k (idle n new gone (m + 1)) j' ss' (m + 1)) { restoring = o }) (sym settled)

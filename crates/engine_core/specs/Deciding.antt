@@ -12,7 +12,7 @@ use Rattle.snap_pages.specs.Shown.{Shown, catalog}
 use Rattle.table_pages.specs.declared.edit.Edit.{Edit}
 use Rattle.table_pages.specs.Carried.{Carries}
 use Rattle.engine_core.specs.declared.answer.Answer.{Answer}
-use Rattle.engine_core.specs.declared.answer.Answer.TheVariants.{AtOnce, UnderAll, UnderTable}
+use Rattle.engine_core.specs.declared.answer.Answer.TheVariants.{AtOnce}
 use Rattle.engine_core.specs.declared.decision.Decision.{Decision}
 use Rattle.engine_core.specs.declared.database.Database.{Database}
 use Rattle.engine_core.specs.declared.database.Database.TheVariants.{Snap}

@@ -20,12 +20,12 @@ use Rattle.plain_model.specs.Tables.{Table, Tables}
 use Rattle.plain_model.specs.Next.{is_int}
 use Rattle.plain_model.specs.Sound.{are_distinct, AreScripts}
 use Rattle.snap_pages.specs.declared.state.SnapState.TheVariants.{Suspect}
-use Rattle.snap_pages.specs.Shown.{Shown, img, counts, catalog, count, IsOpen, set_of, state_of}
+use Rattle.snap_pages.specs.Shown.{Shown, img, counts, catalog, IsOpen, set_of, state_of}
 use Rattle.snap_pages.specs.Catalog.{snap_at}
 use Rattle.snap_pages.specs.Slots.{slots_of}
 use Rattle.snap_pages.specs.Views.{view, IsKept}
 use Rattle.table_pages.specs.Layout.{tables_of, IsPacked}
-use Rattle.table_pages.specs.Carried.{data_pages, decoded}
+use Rattle.table_pages.specs.Carried.{data_pages}
 use Rattle.engine_core.specs.declared.seat.Seat.{Seat}
 use Rattle.engine_core.specs.Entering.{Kept}
 use Rattle.engine_core.specs.Pushing.{snaps_of, sound, name_of, faults_of}

@@ -1,5 +1,5 @@
 -- One step of a session, and what it leaves of the run.
-use Rattle.std.specs.Prelude.{ℕ, ◌≡◌, ◌+◌, ◌<◌, ◌≤◌, false, List, length, slice_index_or, slice_set}
+use Rattle.std.specs.Prelude.{ℕ, ◌≡◌, ◌≢◌, ◌+◌, ◌<◌, ◌≤◌, false, List, length, slice_index_or, slice_set}
 use Rattle.plain_model.specs.declared.stmt.Stmt.{Stmt}
 use Rattle.plain_model.specs.declared.stmt.Stmt.TheVariants.{Broken}
 use Rattle.engine_core.specs.declared.seat.Seat.{Seat}
@@ -24,6 +24,7 @@ pub record Goes (old new : Run) : Type 0 where
 
 -- session i + 1 alone moved, and has this seat now
 pub record Steps (old new : Run) (i : ℕ) (seat : Seat) : Type 0 where
+  pub within : i < length old.seats
   pub goes : Goes old new
   pub seats : new.seats ≡ slice_set old.seats i seat
 
@@ -31,3 +32,7 @@ pub record Steps (old new : Run) (i : ℕ) (seat : Seat) : Type 0 where
 pub record Says (old new : Run) (i : ℕ) : Type 0 where
   pub current : List ℕ
   pub steps : Steps old new i (record { current = current; said = (seat_at old i).said + 1; gone = false })
+
+-- the seats of all other sessions are as they were
+abbrev pub AreOthersSame : Run → Run → ℕ → Type 0
+AreOthersSame old new i = (j : ℕ) → j ≢ i → seat_at new j ≡ seat_at old j

@@ -185,7 +185,10 @@ fn select<P: PageFile>(
         return Course::Answers(at_once(alloc, 926));
     }
     match db {
-        Database::Source => Course::Answers(or_no_memory(alloc, select_in_source(alloc, pages, stmt))),
+        Database::Source => Course::Answers(or_no_memory(
+            alloc,
+            select_in_source(alloc, pages, stmt),
+        )),
         Database::Snap(s) => Course::See(s, stmt.table),
         Database::Master => Course::Answers(at_once(alloc, 208)),
         Database::Absent => Course::Answers(at_once(alloc, 208)),
@@ -215,7 +218,10 @@ pub(crate) fn choose<P: PageFile>(
         Stmt::Update(stmt) => Course::Answers(update(alloc, pages, db, stmt)),
         Stmt::Select(stmt) => select(alloc, pages, db, stmt),
         Stmt::CreateSnap { .. } => Course::Cut,
-        Stmt::Broken { at } => Course::Answers(only(alloc, Answer::AtOnce(refused_at(102, u64::from(*at))))),
+        Stmt::Broken { at } => Course::Answers(only(
+            alloc,
+            Answer::AtOnce(refused_at(102, u64::from(*at))),
+        )),
         _ => Course::Answers(at_once(alloc, 60098)),
     }
 }

@@ -18,7 +18,11 @@ pub(crate) enum Database {
 }
 
 /// The database of this name. Takes no memory.
-pub(crate) fn find_database<P: PageFile>(pages: &SnapPages<P>, source: &Name, name: &Name) -> Database
+pub(crate) fn find_database<P: PageFile>(
+    pages: &SnapPages<P>,
+    source: &Name,
+    name: &Name,
+) -> Database
     ensures means { Means source.now (catalog pages.now) name.now result }
     ensures placed { IsPlaced (catalog pages.now) result }
 {

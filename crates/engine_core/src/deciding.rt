@@ -30,7 +30,10 @@ use page_dev::PageFile;
 use plain_model::{Reply, SelectStmt, SetList, UpdateStmt};
 use snap_pages::SnapPages;
 use std::alloc::Global;
-use table_pages::{Edit, EditList, columns, find, has_key, place, plan_create, plan_insert, plan_update, read_table};
+use table_pages::{
+    Edit, EditList, columns, find, has_key, place, plan_create, plan_insert, plan_update,
+    read_table,
+};
 
 // A decision with one edit.
 fn with_edit(alloc: Global, answer: Answer, edit: Edit) -> Result<Decision, NoMemory>
@@ -96,10 +99,17 @@ fn insert_row<P: PageFile>(
         return Ok(only(alloc, Answer::UnderAll(Mode::S, refused(60013))));
     }
     if has_key(pages.image(place(i)), &cols, row) {
-        return Ok(only(alloc, Answer::UnderTable(name, Mode::X, refused_at(2627, 1))));
+        return Ok(only(
+            alloc,
+            Answer::UnderTable(name, Mode::X, refused_at(2627, 1)),
+        ));
     }
     match plan_insert(alloc, pages, i, row)? {
-        Some(edit) => with_edit(alloc, Answer::UnderTable(name, Mode::X, Reply::Count(1)), edit),
+        Some(edit) => with_edit(
+            alloc,
+            Answer::UnderTable(name, Mode::X, Reply::Count(1)),
+            edit,
+        ),
         None => Ok(only(alloc, Answer::UnderTable(name, Mode::X, refused(1105)))),
     }
 }
@@ -146,14 +156,19 @@ pub(crate) fn select_in_source<P: PageFile>(
     };
     let table = read_table(alloc, pages.image(place(i)))?;
     let rows = table.shown_rows(alloc)?;
-    Ok(only(alloc, Answer::UnderTable(stmt.table, Mode::S, Reply::Rows(rows))))
+    Ok(only(
+        alloc,
+        Answer::UnderTable(stmt.table, Mode::S, Reply::Rows(rows)),
+    ))
 }
 
 // Whether each column that is set is there.
 fn are_there(cols: &Columns, sets: &SetList) -> bool
     ensures { result ≡ list_all (λ i. has_column cols.now i.col) sets.now }
 {
-    sets.as_slice().iter().all(|set| has_column(cols.as_slice(), &set.col))
+    sets.as_slice()
+        .iter()
+        .all(|set| has_column(cols.as_slice(), &set.col))
 }
 
 fn has_column(cols: &[Column], name: &Name) -> bool
@@ -165,14 +180,17 @@ fn has_column(cols: &[Column], name: &Name) -> bool
 fn is_key_column(cols: &[Column], name: &Name) -> bool
     ensures { result ≡ is_key_column cols.now name.now }
 {
-    cols.iter().any(|column| column.name.is_same(name) && 1 <= column.key)
+    cols.iter()
+        .any(|column| column.name.is_same(name) && 1 <= column.key)
 }
 
 // Whether a column of the key is set.
 fn is_key_set(cols: &Columns, sets: &SetList) -> bool
     ensures { result ≡ list_any (λ i. is_key_column cols.now i.col) sets.now }
 {
-    sets.as_slice().iter().any(|set| is_key_column(cols.as_slice(), &set.col))
+    sets.as_slice()
+        .iter()
+        .any(|set| is_key_column(cols.as_slice(), &set.col))
 }
 
 // UPDATE of the table of page `i`, of columns that are there and not of the key

@@ -1,15 +1,19 @@
 //! The engine: a source in pages, its snapshots, its sessions, and the history of what they did.
 
-ghost use Rattle.std.specs.Prelude.{◌≡◌, ◌+◌, ◌<◌, ◌≤◌, ℕ, List, [], true, false, ◌∷◌, ◌*◌, length, sum_by, replicate, IfOk, IfErr, slice_index_or, slice_get, Some};
-ghost use Rattle.engine_core.specs.Steps.{next_stmt, HasNext, Steps, Says};
-ghost use Rattle.engine_core.specs.Safe.{state, seen_by, seat_at, script_at};
+ghost use Rattle.std.specs.Prelude.{◌≡◌, ◌+◌, ◌<◌, ◌≤◌, ℕ, List, [], true, false, ◌∷◌, ◌*◌, length, sum_by, replicate, IfOk, IfErr, slice_index_or, slice_get, Some, IsTrue};
+ghost use Rattle.engine_core.specs.Steps.{next_stmt, HasNext, Goes, Steps, Says, AreOthersSame};
+ghost use Rattle.engine_core.specs.Safe.{state, seen_by, seat_at, script_at, is_turn};
+ghost use Rattle.engine_core.specs.Closing.{IsFault};
+ghost use Rattle.plain_model.specs.Legal.{Legal};
+ghost use Rattle.plain_model.specs.Complete.{Complete};
+ghost use Rattle.page_dev.specs.Faults.{Rose};
+ghost use Rattle.std.specs.List.{list_any};
 ghost use Rattle.engine_core.specs.Ready.{reply_of};
 ghost use Rattle.engine_core.specs.Stepping.{tables_after};
 ghost use Rattle.engine_core.specs.Deciding.{IsDecision, IsSeeing, IsCut};
 ghost use Rattle.plain_model.specs.State.{committed};
 ghost use Rattle.plain_model.specs.Tables.{Tables};
 ghost use Rattle.plain_model.specs.Sound.{is_sound};
-
 ghost use Rattle.std.specs.FinSet as finset;
 ghost use Rattle.page_base.specs.Pages.{blank};
 ghost use Rattle.snap_pages.specs.Shown.{img, counts, catalog};
@@ -21,6 +25,7 @@ ghost use Rattle.plain_model.specs.Sound.{AreScripts};
 
 use crate::answering::{carry_out, current_after, enter_reply};
 use crate::choosing::choose;
+use crate::closing::{CloseEnd, put_back};
 use crate::course::Course;
 use crate::creating::create_snapshot;
 use crate::decision::Decision;
@@ -28,7 +33,7 @@ use crate::seeing::select_in;
 use crate::{Ledger, Seat};
 use page_base::{Name, NoMemory, SessNo, SnapNo};
 use page_dev::{PageFile, Volume};
-use plain_model::{Event, Scripts, Stmt};
+use plain_model::{Book, Event, Scripts, Stmt};
 use snap_pages::SnapPages;
 use std::alloc::Global;
 use std::marker::Model;
@@ -65,21 +70,21 @@ impl<V: Volume> Model for Engine<V> {
     ghost coded = { Prim.hlevel (codes, finite.code, v.the_row.coded, e.the_row.coded, ev.the_row.coded) };
 
     ghost view = { λ a. record {
-        opening = new_source a.source a.file (names_of (V.folder a.opened.value));
-        scripts = a.scripts;
-        disk = disk_of V.tells V.folder V.out V.failures V.file_failures a.volume;
-        shown = a.pages;
-        seats = a.seats.items;
-        kept = a.ledger;
+      opening = new_source a.source a.file (names_of (V.folder a.opened.value));
+      scripts = a.scripts;
+      disk = disk_of V.tells V.folder V.out V.failures V.file_failures a.volume;
+      shown = a.pages;
+      seats = a.seats.items;
+      kept = a.ledger;
     } };
 
     ghost invariant = { λ a. Safe (record {
-        opening = new_source a.source a.file (names_of (V.folder a.opened.value));
-        scripts = a.scripts;
-        disk = disk_of V.tells V.folder V.out V.failures V.file_failures a.volume;
-        shown = a.pages;
-        seats = a.seats.items;
-        kept = a.ledger;
+      opening = new_source a.source a.file (names_of (V.folder a.opened.value));
+      scripts = a.scripts;
+      disk = disk_of V.tells V.folder V.out V.failures V.file_failures a.volume;
+      shown = a.pages;
+      seats = a.seats.items;
+      kept = a.ledger;
     }) };
 }
 
@@ -92,9 +97,11 @@ impl<V: Volume> Engine<V> {
         self.scripts.len() as u8
     }
 
-    /// The history so far.
+    /// The history so far: it is legal where the volume tells, and complete where all sessions have left.
     pub fn book(&self) -> &[Event]
-        ensures { result.now ≡ self.now.kept.events }
+        ensures events { result.now ≡ self.now.kept.events }
+        ensures legal { IsTrue self.now.disk.told → Legal self.now.opening self.now.scripts self.now.kept.events }
+        ensures complete { ((i : ℕ) → i < length self.now.scripts → (seat_at self.now i).gone ≡ true) → Complete self.now.scripts self.now.kept.events }
     {
         self.ledger.events()
     }
@@ -109,7 +116,11 @@ struct Parts<P: PageFile> {
 }
 
 // Blank pages, sessions at their beginning, and room for all events.
-fn make_parts<P: PageFile>(alloc: Global, pages: u32, scripts: &Scripts) -> Result<Parts<P>, NoMemory>
+fn make_parts<P: PageFile>(
+    alloc: Global,
+    pages: u32,
+    scripts: &Scripts,
+) -> Result<Parts<P>, NoMemory>
     ensures images { IfOk result (λ a. img a.pages ≡ (λ p. blank)) }
     ensures counts { IfOk result (λ a. counts a.pages ≡ pages ∷ []) }
     ensures catalog { IfOk result (λ a. catalog a.pages ≡ empty 1) }
@@ -193,7 +204,14 @@ impl<V: Volume> Engine<V> {
         ensures book { IfOk result (λ e. e.kept.events ≡ []) }
         ensures refused { IfErr result (λ r. r.volume ≡ volume) }
     {
-        let Ok(Parts { pages, seats, ledger }) = make_parts(alloc, pages, &scripts) else {
+        let Ok(
+            Parts {
+                pages,
+                seats,
+                ledger,
+            },
+        ) = make_parts(alloc, pages, &scripts)
+        else {
             return Err(OpenRefused { volume });
         };
         Ok(Engine {
@@ -233,7 +251,13 @@ impl<V: Volume> Engine<V> {
         let stmt = stmt_at(&self.scripts, place, seat.said);
         let current = current_after(seat.current, stmt, &decision.answer);
         let who = SessNo(place as u8 + 1);
-        carry_out(&mut self.pages, &mut self.ledger, who, seat.said + 1, decision);
+        carry_out(
+            &mut self.pages,
+            &mut self.ledger,
+            who,
+            seat.said + 1,
+            decision,
+        );
         self.seats[place] = Seat {
             current,
             said: seat.said + 1,
@@ -319,4 +343,82 @@ impl<V: Volume> Engine<V> {
             Course::Cut => self.cut(alloc, place),
         }
     }
+}
+
+impl<V: Volume> Engine<V> {
+    // A session answers all statements that it has left.
+    fn answer_all(&mut self, alloc: Global, place: usize)
+        requires there { place < length self.old.scripts }
+        ensures goes { Goes self.old self.new }
+        ensures all { (seat_at self.new place).said ≡ length (script_at self.new place) }
+        ensures others { AreOthersSame self.old self.new place }
+    {
+        let said = self.seats[place].said;
+        let all = self.scripts.at(place).len() as u32;
+        for _ in said..all {
+            self.statement(alloc, place);
+        }
+    }
+
+    // A session answers all statements that it has left, and leaves.
+    fn end_session(&mut self, alloc: Global, place: usize)
+        requires there { place < length self.old.scripts }
+        ensures goes { Goes self.old self.new }
+        ensures gone { (seat_at self.new place).gone ≡ true }
+        ensures others { AreOthersSame self.old self.new place }
+    {
+        self.answer_all(alloc, place);
+        if !self.seats[place].gone {
+            self.leave(place);
+        }
+    }
+
+    /// All statements that are left are answered and all sessions leave, the first session's first.
+    pub fn finish(&mut self, alloc: Global)
+        ensures opening { self.new.opening ≡ self.old.opening }
+        ensures scripts { self.new.scripts ≡ self.old.scripts }
+        ensures told { self.new.disk.told ≡ self.old.disk.told }
+        ensures failures { self.old.disk.failures ≤ self.new.disk.failures }
+        ensures file_failures { self.old.disk.file_failures ≤ self.new.disk.file_failures }
+        ensures complete { Complete self.new.scripts self.new.kept.events }
+    {
+        for place in 0..self.scripts.len() {
+            self.end_session(alloc, place);
+        }
+        let _book = self.book();
+    }
+
+    /// Ends the run: each sparse file is put back, in the order of the snapshots, also where one before it failed.
+    /// `Fault` names the first that the volume failed to put back. Takes no memory.
+    pub fn close(self) -> Closed<V>
+        ensures book { result.book ≡ self.kept.events }
+        ensures legal { IsTrue self.disk.told → Legal self.opening self.scripts result.book }
+        ensures out { (n : List ℕ) → finset.contains (V.out result.volume) n ≡ false }
+        ensures told { V.tells result.volume ≡ self.disk.told }
+        ensures failures { self.disk.failures ≤ V.failures result.volume }
+        ensures file_failures { self.disk.file_failures ≤ V.file_failures result.volume }
+        ensures fault { IsFault result.end → Rose self.disk.failures (V.failures result.volume) }
+        ensures blame { list_any is_turn result.book ≡ true → Rose self.disk.file_failures (V.file_failures result.volume) }
+    {
+        let Engine {
+            mut volume,
+            pages,
+            ledger,
+            ..
+        } = self;
+        let end = put_back(&mut volume, pages);
+        Closed {
+            volume,
+            book: ledger.into_book(),
+            end,
+        }
+    }
+}
+
+/// What a run leaves: its volume, its history, and how its files were put back.
+#[derive(Drop)]
+pub struct Closed<V: Volume> {
+    pub volume: V,
+    pub book: Book,
+    pub end: CloseEnd,
 }

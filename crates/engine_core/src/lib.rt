@@ -19,6 +19,7 @@ mod refusal;
 mod seat;
 mod seeing;
 
-pub use engine::Engine;
+pub use closing::CloseEnd;
+pub use engine::{Closed, Engine, OpenRefused};
 pub use ledger::Ledger;
 pub use seat::Seat;

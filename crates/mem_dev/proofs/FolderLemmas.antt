@@ -1,6 +1,6 @@
 -- Files that leave their names' places and come back.
 use Rattle.std.proofs.Common.{◌≡◌, ◌≢◌, ℕ, Bool, true, false, IsTrue, List, cond, refl, ap, sym, ◌∙◌}
-use Rattle.std.specs.Prelude.{Option, None, Some, is_some, Result, Ok, Err}
+use Rattle.std.specs.Prelude.{Some, is_some, Err}
 use Rattle.std.specs.Ordering.{nat_cmp, is_eq, eq_by_cmp}
 use Rattle.std.specs.Cmp.{Equal-is, tied_itself}
 use Rattle.std.specs.Cmp.Lexicographic.{slice_cmp, nat_list_cmp_total}
@@ -11,7 +11,7 @@ use mathlib.Core.Bool.{false≢true}
 use Rattle.page_dev.specs.PageFile.{FilePages}
 use Rattle.page_dev.specs.declared.volume.VolRefusal.{VolRefusal}
 use Rattle.page_dev.specs.declared.volume.VolRefusal.TheVariants.{Exists, Absent, Length, Failed, Memory}
-use Rattle.page_dev.specs.Volume.{Kept, Lies, Out, Folder, is_out, TakesPages, TakesLog, HasLength}
+use Rattle.page_dev.specs.Volume.{Kept, Lies, Out, Folder, is_out, TakesPages}
 use Rattle.mem_dev.specs.Out.{out_of, contains-out_of}
 use Rattle.mem_dev.specs.Shelf.{IsWhy}
 use Rattle.mem_dev.proofs.NameMapLemmas.{names_exact}

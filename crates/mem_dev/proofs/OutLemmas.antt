@@ -13,6 +13,7 @@ use Rattle.page_dev.specs.declared.volume.VolRefusal.{VolRefusal}
 use Rattle.page_dev.specs.declared.volume.VolRefusal.TheVariants.{Exists, Absent, Length, Failed, Memory}
 use Rattle.page_dev.specs.Volume.{Kept, Lies, Out, Folder, is_out, out_after, Creates, TakesPages, TakesLog}
 use Rattle.mem_dev.specs.Out.{out_of, contains-out_of}
+use Rattle.mem_dev.specs.Shelf.{lies}
 use Rattle.mem_dev.proofs.NameMapLemmas.{names_exact}
 use Rattle.mem_dev.proofs.FolderLemmas.{same_name}
 
@@ -61,6 +62,22 @@ removed_out folder name there = same_set nat_list_cmp_total names_exact _ _ (λ 
   where
     at : (q : List ℕ) (b : Bool) → eq_by_cmp (slice_cmp nat_cmp) q name ≡ b → is_out (cond b None (map.get folder q)) ≡ is_out (map.get folder q)
     at q true e = sym there ∙ contains-out_of folder name ∙ ap (λ n. is_out (map.get folder n)) (sym (same_name q name e))
+    at q false e = refl
+
+-- another file at a place where one lies
+pub resized_out : (folder : Folder) (name bytes : List ℕ) → lies (map.get folder name) ≡ true → out_of (map.insert folder name (Lies bytes)) ≡ out_of folder
+resized_out folder name bytes there = same_set nat_list_cmp_total names_exact _ _ (λ q.
+    at-inserted folder name (Lies bytes) q ∙ at q (eq_by_cmp (slice_cmp nat_cmp) q name) refl)
+  where
+    is_in_place : (o : Option Kept) → lies o ≡ true → is_out o ≡ false
+    is_in_place None e = refl
+    is_in_place (Some (Lies bs)) e = refl
+    is_in_place (Some Out) e = absurd (false≢true e)
+
+    at : (q : List ℕ) (b : Bool) → eq_by_cmp (slice_cmp nat_cmp) q name ≡ b → cond b false (set.contains (out_of folder) q) ≡ set.contains (out_of folder) q
+    at q true e =
+        sym (is_in_place (map.get folder name) there) ∙ sym (contains-out_of folder name)
+        ∙ ap (λ n. set.contains (out_of folder) n) (sym (same_name q name e))
     at q false e = refl
 
 -- AFTER CALLS

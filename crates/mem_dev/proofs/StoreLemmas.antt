@@ -1,14 +1,13 @@
 -- Pages in memory, and what they read as.
-use Rattle.std.proofs.Common.{◌≡◌, ℕ, zero, suc, ◌+◌, ◌*◌, ◌^◌, ◌<◌, ◌==◌, ◌&&◌, true, false, IsTrue, take, drop, List, [], ◌∷◌, ◌++◌, length, get_or, set, map, replicate, refl, ap, sym, ◌∙◌, arith, eq-eqb, length-set}
+use Rattle.std.proofs.Common.{◌≡◌, ℕ, zero, suc, ◌+◌, ◌*◌, ◌^◌, ◌<◌, ◌==◌, ◌&&◌, true, false, IsTrue, take, drop, List, [], ◌∷◌, ◌++◌, length, get_or, set, replicate, refl, ap, sym, ◌∙◌, arith, eq-eqb, length-set}
 use Rattle.std.specs.Prelude.{Option, None, Some, is_some, Result, Ok, Err, OnOk, OnErr}
 use Rattle.std.specs.List.{concat}
-use Rattle.std.proofs.lemmas.Bool.{eqb-true}
-use Rattle.std.proofs.lemmas.List.{length-replicate, map-set, map-append, map_more, length-map, get_or-map, drop-drop, take_more, append-nil, set-get_or}
+use Rattle.std.proofs.lemmas.List.{length-replicate, map-set, map-append, map_more, drop-drop, take_more, append-nil, set-get_or}
 use Rattle.std.proofs.lemmas.List.Folds.{list_all-append, concat-append}
 use Rattle.std.proofs.lemmas.List.Sums.{AllPass-from_list_all, list_all-from_AllPass}
 use Rattle.std.proofs.lemmas.List.Elements.{All-set, All-replicate}
 use Rattle.page_base.specs.Pages.{blank}
-use Rattle.page_dev.specs.PageFile.{FilePages, AreImages, WritesPage, file_page, new_pages, pages_of}
+use Rattle.page_dev.specs.PageFile.{FilePages, WritesPage, file_page, new_pages, pages_of}
 use Rattle.mem_dev.specs.Store.{Stored, bytes_of, content_of, are_sized, are_images, is_full, IsStore}
 
 pub length-blank : length blank ≡ 8192

@@ -1,5 +1,5 @@
 -- Which of an object's calls to come fail, and how many have failed.
-use Rattle.std.specs.Prelude.{ℕ, ◌-◌, ◌==◌, ◌++◌, ◌∷◌, Bool, List, [], map, Option, None, if◌then◌else◌}
+use Rattle.std.specs.Prelude.{ℕ, ◌-◌, ◌==◌, Bool, List, [], map, Option, None, if◌then◌else◌}
 use Rattle.std.specs.List.{list_any}
 use Rattle.page_dev.specs.Faults.{added}
 

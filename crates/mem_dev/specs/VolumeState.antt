@@ -1,5 +1,5 @@
 -- What a volume in memory is: its files, what the files of each name meet, and the calls that fail.
-use Rattle.std.specs.Prelude.{ℕ, Bool, if◌then◌else◌, List, unwrap_or}
+use Rattle.std.specs.Prelude.{ℕ, if◌then◌else◌, List, unwrap_or}
 use Rattle.std.specs.Ordering.{nat_cmp}
 use Rattle.std.specs.Cmp.Lexicographic.{slice_cmp}
 use Rattle.std.specs.FinMap.{FinMap}

@@ -1,6 +1,8 @@
 //! Devices in memory: they tell what they hold, and chosen calls of them fail.
 #![tactic(auto)]
 
+#[cfg(test)]
+mod device_tests;
 mod fault_plan;
 mod file_rule;
 mod kept_file;

@@ -106,6 +106,7 @@ impl MemVolume {
         requires { lies (map.get self.old.folder name.now) ≡ true }
         ensures ok { OnOk result (self.new ≡ record self.old { folder = map.insert self.old.folder name.now (Lies (resized bytes (kept_at self.old.folder name.now))) }) }
         ensures err { OnErr result (self.new ≡ self.old) }
+        ensures out { out_of self.new.folder ≡ out_of self.old.folder }
     {
         self.shelf.set_length(self.alloc, name, bytes)
     }

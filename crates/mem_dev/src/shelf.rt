@@ -144,6 +144,7 @@ impl Shelf {
     }
 
     /// Cuts a file to so many bytes, or adds zeros to it. After want of memory it is as before.
+    #[tactic(auto, using(crate::proofs::OutLemmas::resized_out))]
     pub(crate) fn set_length(
         &mut self,
         alloc: Global,
@@ -153,6 +154,7 @@ impl Shelf {
         requires { lies (map.get self.old name.now) ≡ true }
         ensures ok { OnOk result (self.new ≡ map.insert self.old name.now (Lies (resized bytes (kept_at self.old name.now)))) }
         ensures err { OnErr result (self.new ≡ self.old) }
+        ensures out { out_of self.new ≡ out_of self.old }
     {
         let Some(file) = self.files.get(name) else {
             return Ok(());

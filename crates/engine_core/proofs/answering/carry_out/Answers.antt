@@ -1,7 +1,3 @@
-use Rattle.std.proofs.Common.{◌≤◌, ◌+◌, ℕ, length, arith}
-use Rattle.engine_core.specs.declared.answer.Answer.{Answer}
-use Rattle.engine_core.specs.declared.answer.Answer.TheVariants.{AtOnce, UnderAll, UnderTable}
-use Rattle.engine_core.specs.Stepping.{lock_events}
 use Rattle.engine_core.proofs.AnswerLemmas.{does_one, locks_few}
 use Rattle.engine_core.proofs.answering.carry_out.Goals as goal
 

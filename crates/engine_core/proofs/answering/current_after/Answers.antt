@@ -1,7 +1,6 @@
-use Rattle.std.proofs.Common.{◌≡◌, ◌∙◌, ap, sym, refl, subst}
-use Rattle.engine_core.specs.Stepping.{is_refusal, current_after}
+use Rattle.std.proofs.Common.{◌∙◌, ap, sym}
+use Rattle.engine_core.specs.Stepping.{is_refusal}
 use Rattle.engine_core.specs.Ready.{reply_of}
-use Rattle.plain_model.specs.declared.stmt.Stmt.{Stmt}
 use Rattle.engine_core.proofs.AnswerLemmas.{refusal_stays, use_enters, other_stays}
 use Rattle.engine_core.proofs.answering.current_after.Goals as goal
 

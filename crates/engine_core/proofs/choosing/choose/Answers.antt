@@ -1,4 +1,4 @@
-use Rattle.std.proofs.Common.{◌≡◌, ◌∙◌, List, [], ℕ, sym, ap, refl, subst}
+use Rattle.std.proofs.Common.{◌∙◌, List, [], ℕ, sym, ap, subst}
 use Rattle.plain_model.specs.declared.stmt.Stmt.TheVariants.{Broken}
 use Rattle.plain_model.specs.declared.reply.Reply.TheVariants.{Msg}
 use Rattle.plain_model.specs.Meaning.{at_place}

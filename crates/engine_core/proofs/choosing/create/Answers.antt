@@ -1,4 +1,4 @@
-use Rattle.std.proofs.Common.{◌≡◌, ◌∙◌, List, length, sym, ap, refl, true}
+use Rattle.std.proofs.Common.{◌∙◌, List, length, sym, ap, refl}
 use Rattle.std.specs.Prelude.{◌==◌}
 use Rattle.std.specs.List.{list_all}
 use Rattle.page_base.specs.declared.column.Column.{Column}

@@ -1,4 +1,4 @@
-use Rattle.std.proofs.Common.{◌≡◌, ◌∙◌, List, ℕ, sym, refl, subst}
+use Rattle.std.proofs.Common.{◌∙◌, List, ℕ, sym, subst}
 use Rattle.plain_model.specs.declared.stmt.Stmt.TheVariants.{UseDb}
 use Rattle.snap_pages.specs.Shown.{catalog}
 use Rattle.engine_core.specs.Databases.{Means}

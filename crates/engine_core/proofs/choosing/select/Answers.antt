@@ -1,4 +1,4 @@
-use Rattle.std.proofs.Common.{◌≡◌, ◌∙◌, List, ℕ, sym, ap, refl, subst, false}
+use Rattle.std.proofs.Common.{◌∙◌, sym, ap, refl, subst}
 use Rattle.plain_model.specs.declared.stmt.Stmt.TheVariants.{Select}
 use Rattle.snap_pages.specs.Shown.{catalog}
 use Rattle.engine_core.specs.declared.database.Database.{Database}

@@ -1,8 +1,4 @@
-use Rattle.std.proofs.Common.{◌≡◌, ◌∙◌, List, length, sym, ap, refl, true}
-use Rattle.std.specs.Prelude.{◌==◌}
-use Rattle.std.specs.List.{list_all}
-use Rattle.page_base.specs.declared.column.Column.{Column}
-use Rattle.plain_model.specs.Next.{is_int}
+use Rattle.std.proofs.Common.{◌∙◌, sym, refl}
 use Rattle.plain_model.specs.declared.stmt.Stmt.TheVariants.{Update}
 use Rattle.engine_core.proofs.Choices.{unbuilt, update_outside, or_memory, same_decides}
 use Rattle.engine_core.proofs.choosing.update.Goals as goal

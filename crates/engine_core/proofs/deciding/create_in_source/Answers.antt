@@ -1,12 +1,8 @@
-use Rattle.std.proofs.Common.{◌≡◌, ◌∙◌, List, [], ◌∷◌, refl, ap, sym, subst}
+use Rattle.std.proofs.Common.{◌∙◌, [], ap}
 use Rattle.std.proofs.lemmas.Result.{IfOk-weaker}
 use Rattle.page_base.specs.declared.numbers.Mode.TheVariants.{X}
 use Rattle.plain_model.specs.declared.stmt.Stmt.TheVariants.{CreateTable}
-use Rattle.plain_model.specs.declared.reply.Reply.{Reply}
-use Rattle.plain_model.specs.declared.reply.Reply.TheVariants.{Ok, Msg}
-use Rattle.engine_core.specs.declared.decision.Decision.{Decision}
 use Rattle.engine_core.specs.declared.answer.Answer.TheVariants.{UnderAll}
-use Rattle.engine_core.specs.Deciding.{IsDecision}
 use Rattle.engine_core.proofs.Decisions.{create_taken, create_full, create_made, is_same}
 use Rattle.engine_core.proofs.deciding.create_in_source.Goals as goal
 

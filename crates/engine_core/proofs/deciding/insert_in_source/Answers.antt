@@ -1,13 +1,12 @@
-use Rattle.std.proofs.Common.{◌≡◌, ◌∙◌, ◌<◌, List, [], ◌∷◌, ℕ, Bool, length, false, refl, ap, sym, subst, arith}
+use Rattle.std.proofs.Common.{◌≡◌, ◌∙◌, ◌<◌, List, [], ℕ, length, false, ap, arith}
 use Rattle.std.specs.Prelude.{◌==◌}
 use Rattle.std.specs.FinMap as finite
 use Rattle.std.proofs.lemmas.Result.{IfOk-weaker}
 use Rattle.std.proofs.lemmas.Bool.{ne_eqb}
-use Rattle.page_base.specs.declared.numbers.Mode.TheVariants.{S, X}
+use Rattle.page_base.specs.declared.numbers.Mode.TheVariants.{S}
 use Rattle.page_base.specs.declared.value.Value.{Value}
 use Rattle.plain_model.specs.declared.stmt.Stmt.TheVariants.{Insert}
-use Rattle.table_pages.specs.Carried.{Holds}
-use Rattle.engine_core.specs.declared.answer.Answer.TheVariants.{UnderAll, UnderTable}
+use Rattle.engine_core.specs.declared.answer.Answer.TheVariants.{UnderAll}
 use Rattle.engine_core.proofs.Decisions.{insert_none, insert_narrow, is_same}
 use Rattle.engine_core.proofs.deciding.insert_in_source.Goals as goal
 

@@ -1,16 +1,15 @@
-use Rattle.std.proofs.Common.{◌≡◌, ◌∙◌, List, [], ◌∷◌, ℕ, Bool, length, refl, ap, sym, subst}
+use Rattle.std.proofs.Common.{◌∙◌, List, [], ◌∷◌, ℕ, length, ap, sym, subst}
 use Rattle.std.specs.Prelude.{◌==◌}
 use Rattle.std.specs.FinMap as finite
 use Rattle.std.proofs.lemmas.Result.{IfOk-weaker}
 use Rattle.std.proofs.lemmas.Bool.{eqb-true}
 use Rattle.page_base.specs.declared.numbers.Mode.TheVariants.{S, X}
 use Rattle.page_base.specs.declared.column.Column.{Column}
-use Rattle.plain_model.specs.Tables.{Table, Tables, Put, applied, key_of}
+use Rattle.plain_model.specs.Tables.{Put, applied}
 use Rattle.plain_model.specs.declared.reply.Reply.TheVariants.{Count, Msg}
 use Rattle.plain_model.specs.Meaning.{plain, at_place}
 use Rattle.plain_model.specs.declared.stmt.Stmt.TheVariants.{Insert}
 use Rattle.snap_pages.specs.Shown.{img}
-use Rattle.table_pages.specs.Layout.{place}
 use Rattle.table_pages.specs.Carried.{Holds, Carries}
 use Rattle.engine_core.specs.declared.answer.Answer.TheVariants.{UnderAll, UnderTable}
 use Rattle.engine_core.proofs.Decisions.{insert_narrow, insert_clash, insert_full, insert_made, is_same}

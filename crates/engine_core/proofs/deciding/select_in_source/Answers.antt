@@ -1,4 +1,4 @@
-use Rattle.std.proofs.Common.{◌≡◌, ◌∙◌, List, ℕ, [], refl, ap, sym, subst}
+use Rattle.std.proofs.Common.{◌∙◌, List, ℕ, [], ap, sym, subst}
 use Rattle.page_base.specs.declared.numbers.Mode.TheVariants.{S}
 use Rattle.plain_model.specs.Tables.{Table, rows_of}
 use Rattle.plain_model.specs.Meaning.{shown_rows}

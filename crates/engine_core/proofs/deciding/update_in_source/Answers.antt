@@ -1,4 +1,4 @@
-use Rattle.std.proofs.Common.{◌≡◌, ◌∙◌, List, ℕ, [], length, true, false, refl, ap, sym, subst}
+use Rattle.std.proofs.Common.{◌∙◌, List, ℕ, [], ap, sym, subst}
 use Rattle.std.specs.List.{list_all, list_any}
 use Rattle.std.proofs.lemmas.Result.{IfOk-weaker}
 use Rattle.page_base.specs.declared.column.Column.{Column}

@@ -1,6 +1,5 @@
-use Rattle.std.proofs.Common.{◌≡◌, ◌∙◌, List, ℕ, length, refl, ap, sym, subst}
+use Rattle.std.proofs.Common.{◌∙◌, List, ℕ, length, ap, sym, subst}
 use Rattle.plain_model.specs.Tables.{Table, rows_of}
-use Rattle.plain_model.specs.declared.stmt.Stmt.TheVariants.{Update}
 use Rattle.snap_pages.specs.Shown.{img}
 use Rattle.table_pages.specs.Carried.{Holds}
 use Rattle.engine_core.proofs.Decisions.{update_made}

@@ -1,4 +1,4 @@
-use Rattle.std.proofs.Common.{◌≡◌, ◌≤◌, ◌∙◌, ℕ, List, ap, sym, subst}
+use Rattle.std.proofs.Common.{◌≤◌, ◌∙◌, ℕ, List, ap, sym, subst}
 use Rattle.page_base.specs.declared.numbers.PageId.{PageId}
 use Rattle.page_base.specs.Slots.{with_slot}
 use Rattle.page_fmt.specs.Content.{content, IsPage}
@@ -22,7 +22,7 @@ returns-clause-slots g c =
     let images = c.push_all.ensures.pushes.img in
     let bytes = c.as_slice.ensures in
     let fits = subst (λ (bs : List ℕ). used (edited (content (img mid c.args.edit.now.page)) c.args.edit.now.slot bs) ≤ 8192) (sym bytes)
-        (subst (λ (f : PageId → List ℕ). used (edited (content (f c.args.edit.now.page)) c.args.edit.now.slot c.args.edit.now.bytes) ≤ 8192) (sym images) c.requires.room.room) in
+    (subst (λ (f : PageId → List ℕ). used (edited (content (f c.args.edit.now.page)) c.args.edit.now.slot c.args.edit.now.bytes) ≤ 8192) (sym images) c.requires.room.room) in
     surely c.change-changed.result _ _ c.change-changed.ensures.slots c.change-changed.ensures.no_room (λ e lacks. no_lack _ _ e.need e.free fits lacks)
     ∙ ap (λ (f : PageId → List ℕ). with_slot (slots_of f) c.args.edit.now.page c.args.edit.now.slot c.as_slice.result.now) images
     ∙ ap (with_slot (slots_of (img c.args.pages.now)) c.args.edit.now.page c.args.edit.now.slot) bytes
@@ -33,7 +33,7 @@ returns-clause-content g c =
     let images = c.push_all.ensures.pushes.img in
     let bytes = c.as_slice.ensures in
     let fits = subst (λ (bs : List ℕ). used (edited (content (img mid c.args.edit.now.page)) c.args.edit.now.slot bs) ≤ 8192) (sym bytes)
-        (subst (λ (f : PageId → List ℕ). used (edited (content (f c.args.edit.now.page)) c.args.edit.now.slot c.args.edit.now.bytes) ≤ 8192) (sym images) c.requires.room.room) in
+    (subst (λ (f : PageId → List ℕ). used (edited (content (f c.args.edit.now.page)) c.args.edit.now.slot c.args.edit.now.bytes) ≤ 8192) (sym images) c.requires.room.room) in
     surely c.change-changed.result _ _ c.change-changed.ensures.content c.change-changed.ensures.no_room (λ e lacks. no_lack _ _ e.need e.free fits lacks)
     ∙ ap (λ (f : PageId → List ℕ). edited (content (f c.args.edit.now.page)) c.args.edit.now.slot c.as_slice.result.now) images
     ∙ ap (edited (content (img c.args.pages.now c.args.edit.now.page)) c.args.edit.now.slot) bytes

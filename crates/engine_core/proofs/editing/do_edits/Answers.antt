@@ -1,6 +1,5 @@
 use Rattle.std.proofs.Common.{◌≡◌, ◌∷◌, ◌∙◌, ◌+◌, ◌<◌, ℕ, length, get_or, List, drop, refl, ap, sym, subst, arith}
 use Rattle.std.proofs.lemmas.List.{drop_more}
-use Rattle.page_base.specs.Pages.{set_at}
 use Rattle.table_pages.specs.declared.edit.Edit.{Edit}
 use Rattle.table_pages.specs.Carried.{Carries}
 use Rattle.table_pages.proofs.CallerLemmas.{carries_on}

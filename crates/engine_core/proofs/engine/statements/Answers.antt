@@ -1,4 +1,4 @@
-use Rattle.std.proofs.Common.{◌≡◌, ◌+◌, ◌≤◌, ◌∙◌, List, length, ap, take, arith}
+use Rattle.std.proofs.Common.{◌≡◌, ◌≤◌, ◌∙◌, List, length, ap, take, arith}
 use Rattle.std.specs.Prelude.{sum_by}
 use Rattle.plain_model.specs.declared.stmt.Stmt.{Stmt}
 use Rattle.std.proofs.lemmas.List.Sums.{sum_by_more_le}

@@ -18,4 +18,4 @@ pub returns-clause-sound : goal.returns-clause-sound
 returns-clause-sound c =
     let script : get_or c.args.scripts.now c.args.place [] ≡ c.as_slice.result.now = get_or_from_slice_get c.args.scripts.now c.args.place c.at-script.result.now [] c.at-script.ensures ∙ sym c.as_slice.ensures.value in
     at_place c.as_slice.result.now c.args.said c.index-as_slice-said.result (ap are_sound c.as_slice.ensures.value ∙ c.as_slice.ensures.sound)
-      (subst (λ (ss : List Stmt). c.args.said < length ss) script c.requires.more) c.index-as_slice-said.is
+    (subst (λ (ss : List Stmt). c.args.said < length ss) script c.requires.more) c.index-as_slice-said.is

@@ -1,5 +1,4 @@
-use Rattle.std.proofs.Common.{◌≡◌, ◌≢◌, inl, inr, refl, ap, sym, ◌∙◌, subst, arith}
-use Rattle.snap_pages.specs.declared.state.SnapState.TheVariants.{Suspect}
+use Rattle.std.proofs.Common.{◌≡◌, inl, inr, refl, sym, ◌∙◌, subst, arith}
 use Rattle.engine_core.specs.Seeing.{Shows}
 use Rattle.engine_core.specs.declared.seeing.Glance.{Glance}
 use Rattle.engine_core.specs.declared.seeing.Glance.TheVariants.{Blank, Named, Other, Damaged, Lost}

@@ -1,4 +1,4 @@
-use Rattle.std.proofs.Common.{◌≡◌, ◌≢◌, ◌≤◌}
+use Rattle.std.proofs.Common.{◌≢◌, ◌≤◌}
 use Rattle.snap_pages.specs.declared.state.SnapState.TheVariants.{Suspect}
 use Rattle.snap_pages.specs.Shown.{state_of}
 use Rattle.snap_pages.specs.Slots.{slots_of}

@@ -1,20 +1,18 @@
-use Rattle.std.proofs.Common.{◌≡◌, ◌+◌, ◌∙◌, ℕ, List, sym, ap, refl, subst, false}
-use Rattle.std.proofs.Math.ListN.{set}
-use Rattle.page_dev.specs.Volume.{Folder, Names}
+use Rattle.std.proofs.Common.{◌≡◌, ◌+◌, ◌∙◌, sym, ap, subst}
 use Rattle.plain_model.specs.State.{committed}
 use Rattle.plain_model.specs.Tables.{Tables}
-use Rattle.snap_pages.specs.Shown.{Shown, img}
+use Rattle.snap_pages.specs.Shown.{img}
 use Rattle.table_pages.specs.Carried.{data_pages, Carries}
 use Rattle.engine_core.specs.Opened.{names_of, new_source}
 use Rattle.engine_core.specs.Disks.{disk_of}
 use Rattle.engine_core.specs.Ready.{reply_of}
-use Rattle.engine_core.specs.Stepping.{tables_after, current_after}
+use Rattle.engine_core.specs.Stepping.{tables_after}
 use Rattle.engine_core.specs.Deciding.{IsDecision}
 use Rattle.engine_core.specs.Doing.{Does}
 use Rattle.engine_core.specs.declared.seat.Seat.{Seat}
 use Rattle.engine_core.specs.Safe.{Run, Safe, AreTables, state, seen_by, seat_at}
 use Rattle.engine_core.specs.Steps.{next_stmt, HasNext}
-use Rattle.engine_core.proofs.CourseLemmas.{enough, few_events, within, own_seat, own_stmt, safe_answer}
+use Rattle.engine_core.proofs.CourseLemmas.{enough, few_events, own_seat, own_stmt, safe_answer}
 use Rattle.engine_core.proofs.engine.Engine.answer.Goals as goal
 
 pub carry_out-requires : goal.carry_out-requires
@@ -30,9 +28,16 @@ carry_out-requires g c κs low =
     let is : c.args.self.now ≡ e = sym c.self.view_is in
     let next = subst (λ (r : Run). HasNext r c.args.place) is c.requires.1.1.1.0 in
     let decided = subst (λ (r : Run). IsDecision r.opening (seat_at r c.args.place).current r.shown (seen_by (state r)) (next_stmt r c.args.place) c.args.decision) is c.requires.1.1.1.1.0 in
-    let tables = c.requires.1.1.1.1.1 ∙ ap (λ (r : Run). tables_after (next_stmt r c.args.place) (reply_of c.args.decision.answer) (committed (state r))) is in
-    (low, (subst (λ (t : Tables). Carries c.self.inside.pages c.args.decision.edits t) (sym tables) decided.carries, (c.self.invariant.pages.source.pages,
-      (enough e c.self.invariant c.args.place next, few_events e c.self.invariant c.args.place next))))
+    let tables = c.requires.1.1.1.1.1 ∙ ap (λ (r : Run). tables_after (next_stmt r c.args.place) (reply_of c.args.decision.answer) (committed (state r))) is in (
+      low,
+      (
+        subst (λ (t : Tables). Carries c.self.inside.pages c.args.decision.edits t) (sym tables) decided.carries,
+        (
+          c.self.invariant.pages.source.pages,
+          (enough e c.self.invariant c.args.place next, few_events e c.self.invariant c.args.place next),
+        ),
+      ),
+    )
 
 pub invariant_of-self : goal.invariant_of-self
 invariant_of-self g c =
@@ -53,5 +58,5 @@ invariant_of-self g c =
     let stmt_is = own_stmt e safe c.args.place next c.index-seat.result.now c.stmt_at-stmt.result.now seat_is c.stmt_at-stmt.ensures.is in
     let does = subst (λ (s : Seat). Does (c.args.place + 1) (s.said + 1) c.args.decision.answer c.self.inside.ledger c.carry_out.new.ledger c.self.inside.pages c.carry_out.new.pages) seat_is c.carry_out.ensures.does in
     safe_answer e safe c.args.place next c.args.decision decided c.carry_out.new.pages c.carry_out.new.ledger does c.carry_out.ensures.still
-      (subst (λ (t : Tables). AreTables (data_pages c.carry_out.new.pages) (img c.carry_out.new.pages) t) tables c.carry_out.ensures.tables)
-      c.index-seat.result.now c.stmt_at-stmt.result.now c.current_after-current.result seat_is stmt_is c.current_after-current.ensures
+    (subst (λ (t : Tables). AreTables (data_pages c.carry_out.new.pages) (img c.carry_out.new.pages) t) tables c.carry_out.ensures.tables)
+    c.index-seat.result.now c.stmt_at-stmt.result.now c.current_after-current.result seat_is stmt_is c.current_after-current.ensures

@@ -1,16 +1,14 @@
-use Rattle.std.proofs.Common.{◌≡◌, ◌+◌, ◌∙◌, ◌≤◌, ◌<◌, ℕ, List, length, sym, ap, refl, subst, false, true, arith}
+use Rattle.std.proofs.Common.{◌≡◌, ◌+◌, ◌∙◌, sym, ap, refl, subst}
 use Rattle.std.proofs.Math.ListN.{set}
-use Rattle.page_dev.specs.Volume.{Folder, Names}
 use Rattle.plain_model.specs.declared.stmt.Stmt.{Stmt}
-use Rattle.plain_model.specs.declared.stmt.Stmt.TheVariants.{CreateSnap}
 use Rattle.engine_core.specs.Opened.{names_of, new_source}
 use Rattle.engine_core.specs.Disks.{disk_of}
 use Rattle.engine_core.specs.declared.seat.Seat.{Seat}
-use Rattle.engine_core.specs.Entering.{Kept}
-use Rattle.engine_core.specs.Deciding.{IsCut, IsCourse, IsSeeing, IsDecision}
-use Rattle.engine_core.specs.Safe.{Run, Safe, state, seen_by, seat_at, script_at}
+use Rattle.engine_core.specs.Deciding.{IsCut}
+use Rattle.std.specs.Prelude.{Some}
+use Rattle.engine_core.specs.Safe.{Run, Safe}
 use Rattle.engine_core.specs.Steps.{next_stmt, HasNext}
-use Rattle.engine_core.proofs.CourseLemmas.{enough, few_events, within, here, says, own_seat, own_stmt, says_so, setting}
+use Rattle.engine_core.proofs.CourseLemmas.{enough, here, says, own_seat, own_stmt, seat_next, cut_only, says_so}
 use Rattle.engine_core.proofs.engine.Engine.cut.Goals as goal
 use Rattle.engine_core.proofs.engine.Engine.cut.Goals.{in-CreateSnap, in_default}
 
@@ -42,11 +40,21 @@ invariant_of-self g c =
     let is : c.args.self.now ≡ e = sym c.self.view_is in
     let safe : Safe e = c.self.invariant in
     let next = subst (λ (r : Run). HasNext r c.args.place) is c.requires.next in
-    let seat_is = own_seat e safe c.args.place next c.index-seat.result.now c.index-seat.ensures in
-    let stmt_is = own_stmt e safe c.args.place next c.index-seat.result.now c.stmt_at.result.now seat_is c.stmt_at.ensures.is in
+    let seat = c.index-seat.result.now in
+    let seat_is = own_seat e safe c.args.place next seat c.index-seat.ensures in
+    let stmt_is = own_stmt e safe c.args.place next seat c.stmt_at.result.now seat_is c.stmt_at.ensures.is in
+    let cut = subst (λ (r : Run). IsCut (next_stmt r c.args.place)) is c.requires.course in
     elim c.match-stmt_at.branch [
-      | in-CreateSnap w ↦ ?
-      | in_default w ↦ ?
+      | in-CreateSnap w ↦
+          let there = says e safe c.args.place next ∙ ap Some (stmt_is ∙ w.in-CreateSnap.is) in
+          let made = w.create_snapshot.ensures.safe e c.args.place safe next.there (here e safe c.args.place next) there refl refl refl refl (ap (λ (s : Seat). s.said + 1) seat_is) refl refl in
+          rw w.self-inside-is (subst (λ (s : Seat). Safe (record e {
+            disk = disk_of g.V.Volume.tells g.V.Volume.folder g.V.Volume.out g.V.Volume.failures g.V.Volume.file_failures w.create_snapshot.new.volume;
+            shown = w.create_snapshot.new.pages;
+            seats = set e.seats c.args.place s;
+            kept = w.create_snapshot.new.ledger;
+          })) (seat_next e safe c.args.place next seat seat_is) made)
+      | in_default w ↦ absurd (cut_only c.stmt_at.result.now (subst (λ (x : Stmt). IsCut x) stmt_is cut) w.in_default.not-CreateSnap)
     ]
 
 pub returns : goal.returns
@@ -62,8 +70,13 @@ returns g c =
     let is : c.args.self.now ≡ e = sym c.self.view_is in
     let safe : Safe e = c.self.invariant in
     let next = subst (λ (r : Run). HasNext r c.args.place) is c.requires.next in
-    let seat_is = own_seat e safe c.args.place next c.index-seat.result.now c.index-seat.ensures in
+    let seat = c.index-seat.result.now in
+    let seat_is = own_seat e safe c.args.place next seat c.index-seat.ensures in
+    let stmt_is = own_stmt e safe c.args.place next seat c.stmt_at.result.now seat_is c.stmt_at.ensures.is in
+    let cut = subst (λ (r : Run). IsCut (next_stmt r c.args.place)) is c.requires.course in
     elim c.match-stmt_at.branch [
-      | in-CreateSnap w ↦ ?
-      | in_default w ↦ ?
+      | in-CreateSnap w ↦ rw w.self-inside-is (says_so e safe c.args.place next c.args.self.now c.self.view_is
+          (disk_of g.V.Volume.tells g.V.Volume.folder g.V.Volume.out g.V.Volume.failures g.V.Volume.file_failures w.create_snapshot.new.volume)
+          w.create_snapshot.ensures.tells w.create_snapshot.ensures.later w.create_snapshot.ensures.file_later w.create_snapshot.new.pages w.create_snapshot.new.ledger seat seat_is)
+      | in_default w ↦ absurd (cut_only c.stmt_at.result.now (subst (λ (x : Stmt). IsCut x) stmt_is cut) w.in_default.not-CreateSnap)
     ]

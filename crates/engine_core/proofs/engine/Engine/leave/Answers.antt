@@ -1,14 +1,12 @@
-use Rattle.std.proofs.Common.{◌≡◌, ◌+◌, ◌∙◌, ◌≤◌, ◌<◌, ℕ, List, length, sym, ap, refl, subst, false, true, arith}
+use Rattle.std.proofs.Common.{◌≡◌, ◌+◌, ◌∙◌, ◌<◌, ℕ, List, length, sym, ap, subst, false, true}
 use Rattle.std.proofs.Math.ListN.{set}
-use Rattle.page_dev.specs.Volume.{Folder, Names}
 use Rattle.engine_core.specs.Opened.{names_of, new_source}
 use Rattle.engine_core.specs.Disks.{disk_of}
 use Rattle.engine_core.specs.declared.seat.Seat.{Seat}
 use Rattle.engine_core.specs.Entering.{Kept, entered}
 use Rattle.engine_core.specs.Stepping.{number}
 use Rattle.plain_model.specs.declared.event.Event.TheVariants.{Left}
-use Rattle.engine_core.specs.Safe.{Run, Safe, state, seat_at, script_at}
-use Rattle.plain_model.specs.State.{master}
+use Rattle.engine_core.specs.Safe.{Run, Safe, seat_at, script_at}
 use Rattle.engine_core.proofs.LeaveLemmas.{room_left, safe_leave}
 use Rattle.engine_core.proofs.CourseLemmas.{seat_read}
 use Rattle.engine_core.proofs.engine.Engine.leave.Goals as goal
@@ -47,6 +45,6 @@ invariant_of-self g c =
     let all = subst (λ (r : Run). (seat_at r c.args.place).said ≡ length (script_at r c.args.place)) is c.requires.all in
     let read = seat_read e safe c.args.place there c.index.result.now c.index.ensures in
     let seat = ap (λ (n : List ℕ). record { current = n; said = (seat_at e c.args.place).said; gone = true }) (sym c.master.ensures)
-          ∙ ap (λ (s : Seat). record { current = c.master.result; said = s.said; gone = true }) (sym read) in
+    ∙ ap (λ (s : Seat). record { current = c.master.result; said = s.said; gone = true }) (sym read) in
     subst (λ (k : Kept). Safe (record e { seats = set e.seats c.args.place (record { current = c.master.result; said = c.index.result.now.said; gone = true }); kept = k })) (sym c.enter.ensures)
-      (subst (λ (s : Seat). Safe (record e { seats = set e.seats c.args.place s; kept = entered e.kept (Left (number (c.args.place + 1))) })) seat (safe_leave e safe c.args.place there here all))
+    (subst (λ (s : Seat). Safe (record e { seats = set e.seats c.args.place s; kept = entered e.kept (Left (number (c.args.place + 1))) })) seat (safe_leave e safe c.args.place there here all))

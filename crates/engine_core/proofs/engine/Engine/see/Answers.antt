@@ -1,20 +1,15 @@
-use Rattle.std.proofs.Common.{◌≡◌, ◌+◌, ◌∙◌, ◌≤◌, ◌<◌, ◌++◌, [], ◌∷◌, ℕ, List, length, sym, ap, refl, subst, false, arith, append-nil}
-use Rattle.std.proofs.Math.ListN.{set}
-use Rattle.page_dev.specs.Volume.{Folder, Names}
-use Rattle.plain_model.specs.State.{committed}
-use Rattle.plain_model.specs.Tables.{Tables}
-use Rattle.snap_pages.specs.Shown.{Shown, img}
+use Rattle.std.proofs.Common.{◌≡◌, ◌+◌, sym, refl, subst, arith, append-nil}
 use Rattle.engine_core.specs.Opened.{names_of, new_source}
 use Rattle.engine_core.specs.Disks.{disk_of}
-use Rattle.engine_core.specs.Deciding.{IsSeeing, IsCut, Setting}
+use Rattle.engine_core.specs.Deciding.{IsSeeing}
 use Rattle.engine_core.specs.Doing.{Does}
 use Rattle.engine_core.specs.declared.seat.Seat.{Seat}
 use Rattle.engine_core.specs.declared.answer.Answer.TheVariants.{AtOnce}
-use Rattle.engine_core.specs.Safe.{Run, Safe, state, seen_by, seat_at}
+use Rattle.engine_core.specs.Safe.{Run, Safe, seat_at}
 use Rattle.engine_core.specs.Steps.{next_stmt, HasNext}
 use Rattle.engine_core.proofs.AnswerLemmas.{does_one}
 use Rattle.engine_core.proofs.PushLemmas.{leaves_of}
-use Rattle.engine_core.proofs.CourseLemmas.{enough, few_events, few_pages, within, here, says, own_seat, own_stmt, says_so, safe_see, setting}
+use Rattle.engine_core.proofs.CourseLemmas.{enough, own_seat, says_so, safe_see}
 use Rattle.engine_core.proofs.engine.Engine.see.Goals as goal
 
 pub enter_reply-requires : goal.enter_reply-requires
@@ -52,10 +47,10 @@ invariant_of-self g c =
     let seat_is = own_seat e safe c.args.place next c.index-seat.result.now c.index-seat.ensures in
     let s = c.select_in-reply in
     let does = does_one (c.args.place + 1) (c.index-seat.result.now.said + 1) c.len-began.result (AtOnce s.result) s.result c.self.inside.ledger c.self.inside.ledger s.new.ledger c.enter_reply.new.ledger c.self.inside.pages s.new.pages
-          (sym (append-nil c.self.inside.ledger.events)) (omega arith) s.ensures.turns (leaves_of c.self.inside.pages s.new.pages s.ensures.pushes) c.enter_reply.ensures refl c.len-began.ensures (enough e safe c.args.place next) (omega arith) in
+    (sym (append-nil c.self.inside.ledger.events)) (omega arith) s.ensures.turns (leaves_of c.self.inside.pages s.new.pages s.ensures.pushes) c.enter_reply.ensures refl c.len-began.ensures (enough e safe c.args.place next) (omega arith) in
     safe_see e safe c.args.place next c.args.s c.args.name.now seeing s.new.pages c.enter_reply.new.ledger s.ensures.pushes c.cat-snaps.ensures.few s.result
-      (subst (λ (t : Seat). Does (c.args.place + 1) (t.said + 1) (AtOnce s.result) c.self.inside.ledger c.enter_reply.new.ledger c.self.inside.pages s.new.pages) seat_is does)
-      s.ensures.lost s.ensures.reply c.index-seat.result.now seat_is
+    (subst (λ (t : Seat). Does (c.args.place + 1) (t.said + 1) (AtOnce s.result) c.self.inside.ledger c.enter_reply.new.ledger c.self.inside.pages s.new.pages) seat_is does)
+    s.ensures.lost s.ensures.reply c.index-seat.result.now seat_is
 
 pub returns : goal.returns
 returns g c =

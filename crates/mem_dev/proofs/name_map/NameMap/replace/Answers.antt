@@ -1,5 +1,5 @@
-use Rattle.std.proofs.Common.{IsTrue, ◌≡◌, ap, sym, ◌∙◌, refl, subst}
-use Rattle.std.specs.Prelude.{Option, Some, is_some}
+use Rattle.std.proofs.Common.{◌≡◌, ap, sym, ◌∙◌, refl}
+use Rattle.std.specs.Prelude.{is_some}
 use Rattle.std.specs.FinMap as map
 use Rattle.mem_dev.proofs.NameMapLemmas.{found, get-found, insert-sets, insert_is_ok, insert_had, on_ok_at}
 use Rattle.mem_dev.proofs.name_map.NameMap.replace.Goals as goal

@@ -1,6 +1,5 @@
 use Rattle.std.proofs.Common.{◌≡◌, ◌*◌, ◌+◌, ◌++◌, ◌∷◌, [], length, take, drop, ap, sym, ◌∙◌, arith}
 use Rattle.std.proofs.lemmas.List.{drop-drop, length-map}
-use Rattle.page_dev.specs.PageFile.{pages_of}
 use Rattle.page_dev.proofs.PageFileLemmas.{length-pages_of}
 use Rattle.mem_dev.specs.Store.{bytes_of}
 use Rattle.mem_dev.proofs.StoreLemmas.{pages_of-push, content-push, images-push, full-push}

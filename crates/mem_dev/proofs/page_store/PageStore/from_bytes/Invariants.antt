@@ -1,4 +1,4 @@
-use Rattle.std.proofs.Common.{◌≡◌, IsTrue, ◌*◌, drop, length, take}
+use Rattle.std.proofs.Common.{◌≡◌, IsTrue, ◌*◌, drop}
 use Rattle.page_dev.specs.PageFile.{pages_of}
 use Rattle.mem_dev.specs.Store.{content_of, is_full, are_images}
 use Rattle.mem_dev.proofs.page_store.PageStore.from_bytes.Given as goal

@@ -1,6 +1,5 @@
-use Rattle.std.proofs.Common.{◌≡◌, IsTrue, length, set, ap, ◌∙◌}
+use Rattle.std.proofs.Common.{◌≡◌, length, set, ap, ◌∙◌}
 use Rattle.std.specs.Prelude.{Some}
-use Rattle.mem_dev.specs.Store.{Stored, are_images}
 use Rattle.mem_dev.proofs.StoreLemmas.{set_again, store-set, images-set}
 use Rattle.mem_dev.proofs.page_store.PageStore.write.Goals as goal
 

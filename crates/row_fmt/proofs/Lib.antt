@@ -1,0 +1,8 @@
+pub mod Numbers
+pub mod BitLemmas
+pub mod FieldLemmas
+pub mod RowLemmas
+pub mod NullLemmas
+pub mod SizeLemmas
+pub mod WritingLemmas
+pub mod KeyLemmas

@@ -1,0 +1,15 @@
+//! The bytes of a row: one spelling for each row of some columns.
+#![tactic(auto)]
+
+mod decoding;
+mod encoding;
+mod reader;
+mod refusal;
+mod sizes;
+#[cfg(test)]
+mod tests;
+
+pub use decoding::decode;
+pub use encoding::encode;
+pub use refusal::RowRefusal;
+pub use sizes::{key_size, size};
