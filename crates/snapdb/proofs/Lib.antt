@@ -1,10 +1,5 @@
-mod MapLemmas
-mod StoreLemmas
-mod KeyLemmas
-mod Inserting
-mod Stepping
-mod Running
 mod Writing
 mod Reading
 mod OneWord
 mod Refusals
+mod Closings

@@ -1,12 +1,14 @@
 -- What the program promises of its answer.
-use Rattle.std.specs.Prelude.{ℕ, ◌≡◌, ◌<◌, ◌≤◌, ◌⊎◌, List, [], ◌∷◌, length, codes, Option}
+use Rattle.std.specs.Prelude.{ℕ, ◌≡◌, ◌<◌, ◌≤◌, ◌⊎◌, ◌++◌, Bool, IsTrue, List, [], ◌∷◌, length, codes, Option}
 use Rattle.std.specs.Io.KnownBytes.{Consumes, IsAtEnd}
+use Rattle.page_dev.specs.Faults.{Rose}
 use Rattle.plain_model.specs.declared.stmt.Stmt.{Stmt}
 use Rattle.plain_model.specs.declared.event.Event.{Event}
+use Rattle.plain_model.specs.Journal.{Opening}
 use Rattle.plain_model.specs.Legal.{Legal}
 use Rattle.plain_model.specs.Complete.{Complete}
 use Rattle.plain_model.specs.Printed.{printed}
-use Rattle.snapdb.specs.Opening.{fresh}
+use Rattle.engine_core.specs.Opened.{new_source}
 use Rattle.snapdb.specs.Script.{IsScript}
 
 -- the words of the one command
@@ -17,16 +19,21 @@ IsPlay words = words ≡ codes "play" ∷ []
 abbrev pub Reads : Option (List ℕ) → Option (List ℕ) → List ℕ → Type 0
 Reads old new bytes = Consumes old new bytes × IsAtEnd new
 
--- the book is one legal and complete history of the script
-pub record IsHistory (bytes : List ℕ) (book : List Event) : Type 0 where
+-- a run begins with the new source `shop`, whose one data file is `shop_data`, beside these names on the volume
+abbrev pub fresh : List (List ℕ) → Opening
+fresh names = new_source (codes "shop") (codes "shop_data") names
+
+-- The book is one complete history of the script, and a legal one where the volume tells its content. The names are
+-- those on the volume at the beginning.
+pub record IsHistory (told : Bool) (names : List (List ℕ)) (bytes : List ℕ) (book : List Event) : Type 0 where
   pub scripts : List (List Stmt)
   pub script : IsScript bytes scripts
-  pub legal : Legal fresh scripts book
+  pub legal : IsTrue told → Legal (fresh names) scripts book
   pub complete : Complete scripts book
 
 -- a whole script was read, and the book is its history
-abbrev pub Tells : Option (List ℕ) → Option (List ℕ) → List Event → Type 0
-Tells old new book = (bytes : List ℕ) × Reads old new bytes × IsHistory bytes book
+abbrev pub Tells : Bool → List (List ℕ) → Option (List ℕ) → Option (List ℕ) → List Event → Type 0
+Tells told names old new book = (bytes : List ℕ) × Reads old new bytes × IsHistory told names bytes book
 
 -- more bytes than a script may have were taken
 abbrev pub Exceeds : Option (List ℕ) → Option (List ℕ) → Type 0
@@ -45,6 +52,10 @@ unbuilt_line = codes "refused: script unbuilt\n"
 abbrev pub long_line : List ℕ
 long_line = codes "refused: script long\n"
 
+-- the line that names a file which the volume failed to put back
+abbrev pub close_line : List ℕ → List ℕ
+close_line name = codes "refused: close " ++ name ++ codes "\n"
+
 -- Which line refuses the call: the words are no command; the bytes that were read are no script; or more bytes than a
 -- script may have were taken.
 pub data Refuses (words : List (List ℕ)) (old new : Option (List ℕ)) : List ℕ → Type 0 where
@@ -52,6 +63,12 @@ pub data Refuses (words : List (List ℕ)) (old new : Option (List ℕ)) : List 
   Unbuilt : IsPlay words → IsNoScript old new → Refuses words old new unbuilt_line
   TooLong : IsPlay words → Exceeds old new → Refuses words old new long_line
 
--- the text that is due: the line of a refusal, with an empty book, or the text of the history
-abbrev pub IsDue : List (List ℕ) → Option (List ℕ) → Option (List ℕ) → List Event → List ℕ → Type 0
-IsDue words old new book text = (Refuses words old new text × (book ≡ [])) ⊎ (IsPlay words × Tells old new book × (text ≡ printed book))
+-- The text of a run: that of its history; or, where the volume's count of faults rose, that and the line of a file
+-- that wasn't put back.
+abbrev pub IsTold : ℕ → ℕ → List Event → List ℕ → Type 0
+IsTold faults faults' book text = (text ≡ printed book) ⊎ ((name : List ℕ) × Rose faults faults' × (text ≡ printed book ++ close_line name))
+
+-- the text that is due: the line of a refusal, with an empty book, or the text of a run
+abbrev pub IsDue : Bool → List (List ℕ) → ℕ → ℕ → List (List ℕ) → Option (List ℕ) → Option (List ℕ) → List Event → List ℕ → Type 0
+IsDue told names faults faults' words old new book text =
+    (Refuses words old new text × (book ≡ [])) ⊎ (IsPlay words × Tells told names old new book × IsTold faults faults' book text)

@@ -1,6 +1,4 @@
-pub mod Opening
-pub mod Answers
-pub mod Running
 pub mod Script
 pub mod Headline
 pub mod Refusing
+pub mod Closed

@@ -1,11 +1,18 @@
 -- What a call that made no history answers and writes.
-use Rattle.std.specs.Prelude.{ℕ, ◌≡◌, ◌⊎◌, ◌≤◌, List, Option}
+use Rattle.std.specs.Prelude.{ℕ, ◌≡◌, ◌⊎◌, ◌≤◌, ⊤, List, Option}
 use Rattle.std.specs.Io.KnownBytes.{Appends, Keeps}
 use Rattle.page_dev.specs.Faults.{Rose}
 use Rattle.page_dev.specs.Sink.{AppendsFront}
 use Rattle.snapdb.specs.declared.top.PlayRefusal.{PlayRefusal}
 use Rattle.snapdb.specs.declared.top.PlayRefusal.TheVariants.{Source, Memory, Long, Unbuilt}
-use Rattle.snapdb.specs.Headline.{long_line, unbuilt_line}
+use Rattle.snapdb.specs.Headline.{long_line, unbuilt_line, Exceeds, IsNoScript}
+
+-- the cause of each refusal, by what was left of the source, what is left, and its counts of faults
+abbrev pub HasReason : PlayRefusal → Option (List ℕ) → Option (List ℕ) → ℕ → ℕ → Type 0
+HasReason Source old new before now = Rose before now
+HasReason Memory old new before now = ⊤
+HasReason Long old new before now = Exceeds old new
+HasReason Unbuilt old new before now = IsNoScript old new
 
 -- the line was written whole with status 2, or a front of it with the sink's refusal
 pub record WritesLine (line : List ℕ) (status : ℕ) (old new : Option (List ℕ)) (before now : ℕ) : Type 0 where
@@ -21,6 +28,7 @@ pub record Silent (wanted status : ℕ) (old new : Option (List ℕ)) (before no
   pub kept : Keeps old new
   pub later : before ≤ now
 
+-- what is written of each refusal, and with which status
 abbrev pub Answers : PlayRefusal → ℕ → Option (List ℕ) → Option (List ℕ) → ℕ → ℕ → Type 0
 Answers Source status old new before now = Silent 5 status old new before now
 Answers Memory status old new before now = Silent 4 status old new before now

@@ -2,11 +2,7 @@
 #![tactic(auto)]
 
 mod adapters;
-mod answer;
-mod engine;
-mod key;
 mod script;
-mod store;
 mod stream;
 #[cfg(test)]
 mod tests;
@@ -15,6 +11,7 @@ mod top;
 mod words;
 
 use adapters::{InSource, OutSink};
+use mem_dev::MemVolume;
 use std::alloc::{AllocError, Global};
 use std::process::ExitCode;
 use std::rt::Env;
@@ -35,8 +32,11 @@ fn main(rt: HostRuntime) -> ExitCode {
     let Ok(words) = words_of(&rt, alloc) else {
         return ExitCode::from(4);
     };
+    let Ok(volume) = MemVolume::new(alloc) else {
+        return ExitCode::from(4);
+    };
     let mut input = InSource::new(rt.stdin());
     let mut out = OutSink::new(rt.stdout());
-    let ended = top::still(alloc, &words, (), &mut input, &mut out);
+    let ended = top::still(alloc, &words, volume, &mut input, &mut out);
     ExitCode::from(ended.status)
 }

@@ -1,26 +1,35 @@
 //! The call that does all that the program does, over any volume, source and sink.
 
-ghost use Rattle.std.specs.Prelude.{◌≡◌, ◌⊎◌, ◌≤◌, [], List, ℕ, map, IfOk, IsErrOf};
-ghost use Rattle.snapdb.specs.declared.top.PlayRefusal.TheVariants.{Source, Long, Unbuilt};
+ghost use Rattle.std.specs.Prelude.{◌≡◌, ◌⊎◌, ◌≤◌, ◌++◌, true, false, [], List, ℕ, map, codes, IsTrue, IfOk, IfErr};
+ghost use Rattle.std.specs.List.{list_any};
+ghost use Rattle.std.specs.FinSet as finset;
 ghost use Rattle.std.specs.Io.KnownBytes.{Appends, Keeps};
 ghost use Rattle.page_dev.specs.Faults.{Rose};
 ghost use Rattle.page_dev.specs.Sink.{AppendsFront};
+ghost use Rattle.plain_model.specs.Complete.{Complete};
+ghost use Rattle.plain_model.specs.Legal.{Legal};
 ghost use Rattle.plain_model.specs.Printed.{printed};
-ghost use Rattle.snapdb.specs.Refusing.{Answers};
-ghost use Rattle.snapdb.specs.Headline.{IsPlay, Tells, Exceeds, IsNoScript, Refuses, IsDue};
+ghost use Rattle.engine_core.specs.Closing.{IsFault};
+ghost use Rattle.engine_core.specs.Opened.{names_of};
+ghost use Rattle.engine_core.specs.Safe.{is_turn};
+ghost use Rattle.snapdb.specs.Closed.{told_text, status_of};
+ghost use Rattle.snapdb.specs.Refusing.{Answers, HasReason};
+ghost use Rattle.snapdb.specs.Script.{IsScript};
+ghost use Rattle.snapdb.specs.Headline.{IsPlay, Reads, Tells, Refuses, IsDue, close_line, fresh};
 
-use crate::engine::history;
 use crate::script::{ScriptRefusal, read_script};
 use crate::stream::{ReadRefusal, read_all, write_all};
 use crate::text::book_text;
 use crate::words::is_play;
-use page_dev::{Sink, SinkRefusal, Source};
-use plain_model::Book;
-use std::alloc::Global;
+use engine_core::{CloseEnd, Closed, Engine, OpenRefused};
+use page_base::{FileName, Name};
+use page_dev::{Sink, SinkRefusal, Source, Volume};
+use plain_model::{Book, Scripts};
+use std::alloc::{AllocError, Global};
 
-/// How a call ended: its status, the volume as it was handed in, and the history.
+/// How a call ended: its status, the volume with all files back, and the history.
 #[derive(Drop)]
-pub struct Ended<V> {
+pub struct Ended<V: Volume> {
     pub status: u8,
     pub volume: V,
     pub book: Book,
@@ -35,12 +44,17 @@ enum PlayRefusal {
     Unbuilt,
 }
 
-// Reads a script and plays it.
-fn play<S: Source>(alloc: Global, input: &mut S) -> Result<Book, PlayRefusal>
-    ensures ok { IfOk result (Tells (S.left input.old) (S.left input.new)) }
-    ensures source { IsErrOf result Source → Rose (S.failures input.old) (S.failures input.new) }
-    ensures long { IsErrOf result Long → Exceeds (S.left input.old) (S.left input.new) }
-    ensures unbuilt { IsErrOf result Unbuilt → IsNoScript (S.left input.old) (S.left input.new) }
+// A volume on which nothing was played, as it was handed in, and why.
+#[derive(Drop)]
+struct Unplayed<V: Volume> {
+    volume: V,
+    why: PlayRefusal,
+}
+
+// Reads a script.
+fn read_input<S: Source>(alloc: Global, input: &mut S) -> Result<Scripts, PlayRefusal>
+    ensures script { IfOk result (λ scripts. (bytes : List ℕ) × Reads (S.left input.old) (S.left input.new) bytes × IsScript bytes scripts) }
+    ensures why { IfErr result (λ why. HasReason why (S.left input.old) (S.left input.new) (S.failures input.old) (S.failures input.new)) }
     ensures later { S.failures input.old ≤ S.failures input.new }
 {
     let bytes = match read_all(alloc, input) {
@@ -49,17 +63,86 @@ fn play<S: Source>(alloc: Global, input: &mut S) -> Result<Book, PlayRefusal>
         Err(ReadRefusal::Memory) => return Err(PlayRefusal::Memory),
         Err(ReadRefusal::Long) => return Err(PlayRefusal::Long),
     };
-    let scripts = match read_script(alloc, &bytes) {
-        Ok(scripts) => scripts,
-        Err(ScriptRefusal::Memory) => return Err(PlayRefusal::Memory),
-        Err(ScriptRefusal::Unbuilt) => return Err(PlayRefusal::Unbuilt),
-    };
-    history(alloc, scripts.at(0)).map_err(|_| PlayRefusal::Memory)
+    match read_script(alloc, &bytes) {
+        Ok(scripts) => Ok(scripts),
+        Err(ScriptRefusal::Memory) => Err(PlayRefusal::Memory),
+        Err(ScriptRefusal::Unbuilt) => Err(PlayRefusal::Unbuilt),
+    }
+}
+
+// The source's name.
+fn source() -> Name
+    ensures { result ≡ codes "shop" }
+{
+    Name::read(b"shop").unwrap()
+}
+
+// The name of the source's one data file.
+fn data_file() -> Name
+    ensures { result ≡ codes "shop_data" }
+{
+    Name::read(b"shop_data").unwrap()
+}
+
+// Runs scripts over a new source of 256 pages.
+fn run_scripts<V: Volume>(
+    alloc: Global,
+    volume: V,
+    scripts: Scripts,
+) -> Result<Closed<V>, OpenRefused<V>>
+    requires out { (n : List ℕ) → finset.contains (V.out volume) n ≡ false }
+    ensures legal { IfOk result (λ c. IsTrue (V.tells volume) → Legal (fresh (names_of (V.folder volume))) scripts c.book) }
+    ensures complete { IfOk result (λ c. Complete scripts c.book) }
+    ensures out { IfOk result (λ c. (n : List ℕ) → finset.contains (V.out c.volume) n ≡ false) }
+    ensures tells { IfOk result (λ c. V.tells c.volume ≡ V.tells volume) }
+    ensures later { IfOk result (λ c. V.failures volume ≤ V.failures c.volume) }
+    ensures file_later { IfOk result (λ c. V.file_failures volume ≤ V.file_failures c.volume) }
+    ensures fault { IfOk result (λ c. IsFault c.end → Rose (V.failures volume) (V.failures c.volume)) }
+    ensures blame { IfOk result (λ c. list_any is_turn c.book ≡ true → Rose (V.file_failures volume) (V.file_failures c.volume)) }
+    ensures refused { IfErr result (λ r. r.volume ≡ volume) }
+{
+    match Engine::fresh(alloc, volume, &source(), &data_file(), 256, scripts) {
+        Ok(mut engine) => {
+            engine.finish(alloc);
+            Ok(engine.close())
+        }
+        Err(refused) => Err(refused),
+    }
+}
+
+// Reads a script and runs it. A refusal hands the volume back.
+fn play<V: Volume, S: Source>(
+    alloc: Global,
+    volume: V,
+    input: &mut S,
+) -> Result<Closed<V>, Unplayed<V>>
+    requires out { (n : List ℕ) → finset.contains (V.out volume) n ≡ false }
+    ensures tells { IfOk result (λ c. Tells (V.tells volume) (names_of (V.folder volume)) (S.left input.old) (S.left input.new) c.book) }
+    ensures out { IfOk result (λ c. (n : List ℕ) → finset.contains (V.out c.volume) n ≡ false) }
+    ensures told { IfOk result (λ c. V.tells c.volume ≡ V.tells volume) }
+    ensures volume_later { IfOk result (λ c. V.failures volume ≤ V.failures c.volume) }
+    ensures file_later { IfOk result (λ c. V.file_failures volume ≤ V.file_failures c.volume) }
+    ensures fault { IfOk result (λ c. IsFault c.end → Rose (V.failures volume) (V.failures c.volume)) }
+    ensures blame { IfOk result (λ c. list_any is_turn c.book ≡ true → Rose (V.file_failures volume) (V.file_failures c.volume)) }
+    ensures kept { IfErr result (λ r. r.volume ≡ volume) }
+    ensures why { IfErr result (λ r. HasReason r.why (S.left input.old) (S.left input.new) (S.failures input.old) (S.failures input.new)) }
+    ensures later { S.failures input.old ≤ S.failures input.new }
+{
+    match read_input(alloc, input) {
+        Ok(scripts) => match run_scripts(alloc, volume, scripts) {
+            Ok(closed) => Ok(closed),
+            Err(OpenRefused { volume }) => Err(Unplayed {
+                volume,
+                why: PlayRefusal::Memory,
+            }),
+        },
+        Err(why) => Err(Unplayed { volume, why }),
+    }
 }
 
 // Writes a text, and answers the status that is given, or that of the sink's refusal.
 fn written<K: Sink>(out: &mut K, text: &[u8], status: u8) -> u8
-    requires { (status ≡ 0) ⊎ (status ≡ 2) }
+    requires { (status ≡ 0) ⊎ ((status ≡ 2) ⊎ (status ≡ 7)) }
     ensures known { (result ≡ status) ⊎ ((result ≡ 3) ⊎ (result ≡ 4)) }
     ensures all { result ≡ status → Appends (K.taken out.old) (K.taken out.new) text.now }
     ensures front { AppendsFront (K.taken out.old) (K.taken out.new) text.now }
@@ -73,16 +156,48 @@ fn written<K: Sink>(out: &mut K, text: &[u8], status: u8) -> u8
     }
 }
 
-// Writes the text of a history, and answers the status.
-fn printed_status<K: Sink>(alloc: Global, out: &mut K, book: &Book) -> u8
-    ensures known { (result ≡ 0) ⊎ ((result ≡ 3) ⊎ (result ≡ 4)) }
-    ensures all { result ≡ 0 → Appends (K.taken out.old) (K.taken out.new) (printed book.now) }
-    ensures front { AppendsFront (K.taken out.old) (K.taken out.new) (printed book.now) }
+// A text, and behind it the line of a file that wasn't put back.
+fn with_close_line(mut text: Vec<u8>, name: &FileName) -> Result<Vec<u8>, AllocError>
+    ensures { IfOk result (λ longer. longer.items ≡ text.items ++ close_line name.now) }
+{
+    text.extend_from_slice(b"refused: close ")?;
+    text.extend_from_slice(name.bytes())?;
+    text.extend_from_slice(b"\n")?;
+    Ok(text)
+}
+
+// The text of a history, and the line of the file that wasn't put back, if there is one.
+fn told_text(alloc: Global, book: &Book, end: &CloseEnd) -> Result<Vec<u8>, AllocError>
+    ensures { IfOk result (λ text. text.items ≡ told_text book.now end.now) }
+{
+    let text = book_text(alloc, book)?;
+    match end {
+        CloseEnd::Done => Ok(text),
+        CloseEnd::Fault(name) => with_close_line(text, name),
+    }
+}
+
+fn status_of(end: &CloseEnd) -> u8
+    ensures is { result ≡ status_of end.now }
+    ensures known { (result ≡ 0) ⊎ (result ≡ 7) }
+{
+    match end {
+        CloseEnd::Done => 0,
+        CloseEnd::Fault(_) => 7,
+    }
+}
+
+// Writes what a closed run tells, and answers the status.
+fn told_status<K: Sink>(alloc: Global, out: &mut K, book: &Book, end: &CloseEnd) -> u8
+    ensures known { (result ≡ status_of end.now) ⊎ ((result ≡ 3) ⊎ (result ≡ 4)) }
+    ensures all { result ≡ status_of end.now → Appends (K.taken out.old) (K.taken out.new) (told_text book.now end.now) }
+    ensures front { AppendsFront (K.taken out.old) (K.taken out.new) (told_text book.now end.now) }
     ensures failed { result ≡ 3 → Rose (K.failures out.old) (K.failures out.new) }
     ensures later { K.failures out.old ≤ K.failures out.new }
 {
-    match book_text(alloc, book) {
-        Ok(text) => written(out, &text, 0),
+    let status = status_of(end);
+    match told_text(alloc, book, end) {
+        Ok(text) => written(out, &text, status),
         Err(_) => 4,
     }
 }
@@ -99,50 +214,69 @@ fn refused_status<K: Sink>(out: &mut K, refusal: PlayRefusal) -> u8
     }
 }
 
-/// Serves a command, and always returns. The one command is `play`: it reads a script to the end of the input, plays
-/// it, and writes the history. The status is 0 where all was done and written; 2 where the words are no command or the
-/// bytes are no script, with one line that says so; 3 where the sink failed; 4 for want of memory; 5 where the source
-/// failed.
-pub fn still<V, S: Source, K: Sink>(
+/// Serves a command, and always returns. The one command is `play`: it reads a script to the end of the input, runs it
+/// over a new source `shop` with sparse files on the volume, puts the files back, and writes the history. No file of
+/// the volume may be out, and none is afterwards. The status is 0 where all was done and written; 2 where the words are
+/// no command or the bytes are no script, with one line that says so; 3 where the sink failed; 4 for want of memory; 5
+/// where the source failed; 7 where the volume failed to put a file back, with a line behind the history that names it.
+pub fn still<V: Volume, S: Source, K: Sink>(
     alloc: Global,
     words: &[Vec<u8>],
     volume: V,
     input: &mut S,
     out: &mut K,
 ) -> Ended<V>
-    ensures volume { result.volume ≡ volume }
+    requires out { (n : List ℕ) → finset.contains (V.out volume) n ≡ false }
 
     // There is no other status.
-    ensures status { (result.status ≡ 0) ⊎ ((result.status ≡ 2) ⊎ ((result.status ≡ 3) ⊎ ((result.status ≡ 4) ⊎ (result.status ≡ 5)))) }
+    ensures status { (result.status ≡ 0) ⊎ ((result.status ≡ 2) ⊎ ((result.status ≡ 3) ⊎ ((result.status ≡ 4) ⊎ ((result.status ≡ 5) ⊎ (result.status ≡ 7))))) }
 
-    // The book is empty, or one legal and complete history of the script that was read.
-    ensures history { (result.book ≡ []) ⊎ Tells (S.left input.old) (S.left input.new) result.book }
+    // The book is empty and the volume as before, or the book is one complete history of the script that was read, and
+    // a legal one where the volume tells.
+    ensures history { ((result.book ≡ []) × (result.volume ≡ volume))
+        ⊎ Tells (V.tells volume) (names_of (V.folder volume)) (S.left input.old) (S.left input.new) result.book }
 
     // At status 0 a whole script was read, and the text of its history was written.
-    ensures done { result.status ≡ 0 → IsPlay (map (λ w. w.items) words.now) × Tells (S.left input.old) (S.left input.new) result.book
+    ensures done { result.status ≡ 0 → IsPlay (map (λ w. w.items) words.now)
+        × Tells (V.tells volume) (names_of (V.folder volume)) (S.left input.old) (S.left input.new) result.book
         × Appends (K.taken out.old) (K.taken out.new) (printed result.book) }
 
+    // At status 7 the volume failed, and the line of a file was written behind the history.
+    ensures closed { result.status ≡ 7 → IsPlay (map (λ w. w.items) words.now)
+        × Tells (V.tells volume) (names_of (V.folder volume)) (S.left input.old) (S.left input.new) result.book
+        × ((name : List ℕ) × Rose (V.failures volume) (V.failures result.volume)
+        × Appends (K.taken out.old) (K.taken out.new) (printed result.book ++ close_line name)) }
+
     // At status 2 the line that was written says why.
-    ensures refused { result.status ≡ 2 → (line : List ℕ) × Refuses (map (λ w. w.items) words.now) (S.left input.old) (S.left input.new) line
-        × Appends (K.taken out.old) (K.taken out.new) line × (result.book ≡ []) }
+    ensures refused { result.status ≡ 2 → ((line : List ℕ) × Refuses (map (λ w. w.items) words.now) (S.left input.old) (S.left input.new) line
+        × Appends (K.taken out.old) (K.taken out.new) line) × (result.book ≡ []) × (result.volume ≡ volume) }
 
     // Status 3 comes only where the sink failed.
     ensures sink { result.status ≡ 3 → Rose (K.failures out.old) (K.failures out.new) }
 
     // Status 5 comes only where the source failed, and then nothing was written.
-    ensures source { result.status ≡ 5 → IsPlay (map (λ w. w.items) words.now) × Rose (S.failures input.old) (S.failures input.new)
-        × Keeps (K.taken out.old) (K.taken out.new) × (result.book ≡ []) }
+    ensures source { result.status ≡ 5 → IsPlay (map (λ w. w.items) words.now)
+        × (Rose (S.failures input.old) (S.failures input.new) × Keeps (K.taken out.old) (K.taken out.new))
+        × (result.book ≡ []) × (result.volume ≡ volume) }
 
     // What was written is a front of the text that was due, or nothing.
     ensures front { Keeps (K.taken out.old) (K.taken out.new) ⊎ ((text : List ℕ)
-        × IsDue (map (λ w. w.items) words.now) (S.left input.old) (S.left input.new) result.book text
+        × IsDue (V.tells volume) (names_of (V.folder volume)) (V.failures volume) (V.failures result.volume) (map (λ w. w.items) words.now) (S.left input.old) (S.left input.new) result.book text
         × AppendsFront (K.taken out.old) (K.taken out.new) text) }
 
-    // Words that are no command leave the input unread.
-    ensures unread { (IsPlay (map (λ w. w.items) words.now) → ⊥) → input.new ≡ input.old }
+    // Words that are no command leave the input unread and the volume as it is.
+    ensures unread { (IsPlay (map (λ w. w.items) words.now) → ⊥) → (input.new ≡ input.old) × (result.volume ≡ volume) }
+
+    // A snapshot turned suspect only where a file of the volume failed.
+    ensures suspects { list_any is_turn result.book ≡ true → Rose (V.file_failures volume) (V.file_failures result.volume) }
+
+    // All files are back, and the volume tells as before.
+    ensures out { (n : List ℕ) → finset.contains (V.out result.volume) n ≡ false }
+    ensures tells { V.tells result.volume ≡ V.tells volume }
 
     // The counts of faults never fall.
     ensures later { (S.failures input.old ≤ S.failures input.new) × (K.failures out.old ≤ K.failures out.new) }
+    ensures volume_later { (V.failures volume ≤ V.failures result.volume) × (V.file_failures volume ≤ V.file_failures result.volume) }
 {
     if !is_play(words) {
         return Ended {
@@ -151,14 +285,14 @@ pub fn still<V, S: Source, K: Sink>(
             book: Book::new(alloc),
         };
     }
-    match play(alloc, input) {
-        Ok(book) => Ended {
-            status: printed_status(alloc, out, &book),
+    match play(alloc, volume, input) {
+        Ok(Closed { volume, book, end }) => Ended {
+            status: told_status(alloc, out, &book, &end),
             volume,
             book,
         },
-        Err(refusal) => Ended {
-            status: refused_status(out, refusal),
+        Err(Unplayed { volume, why }) => Ended {
+            status: refused_status(out, why),
             volume,
             book: Book::new(alloc),
         },

@@ -1,5 +1,7 @@
 pub mod BoolLemmas
+pub mod TextLemmas
 pub mod Lexing
+pub mod FileLemmas
 pub mod Cutting
 pub mod Spelling
 pub mod Passing

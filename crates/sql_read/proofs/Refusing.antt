@@ -1,26 +1,32 @@
 -- The token at which the table stops is the first that can't stand, or begins a part too many.
 use Rattle.std.proofs.Common.{◌≡◌, ℕ, ◌+◌, ◌≤◌, Bool, true, false, cond, List, [], ◌∷◌, ◌++◌, arith, ap, sym, ◌∙◌, refl, subst, Option, append_assoc, inl, inr, ◌⊎◌}
 use Rattle.std.specs.Prelude.{Some, None, nat_le, ◌&&◌, Result, Err, IfErr}
+use Rattle.page_base.specs.FileName.{IsFileName, last_part}
 use Rattle.std.proofs.lemmas.Bool.{le-leb, lt-leb, leb-true, cases_lt}
 use Rattle.plain_model.specs.declared.stmt.Stmt.{Stmt}
+use Rattle.sql_read.specs.declared.context_word.ContextWord.TheVariants as place
 use Rattle.sql_read.specs.declared.keyword.Keyword.TheVariants as word
 use Rattle.sql_read.specs.declared.token.Mark.TheVariants as mark
 use Rattle.sql_read.specs.declared.token.Token.{Token}
 use Rattle.sql_read.specs.declared.token.TokenKind.{TokenKind}
 use Rattle.sql_read.specs.declared.token.TokenKind.TheVariants as kind
-use Rattle.sql_read.specs.Tokens.{Lexes, kinds}
+use Rattle.sql_read.specs.declared.token.TokenKind.TheVariants.{Text}
+use Rattle.sql_read.specs.Tokens.{Lexes, kinds, Spells}
 use Rattle.sql_read.specs.Cut.{tokens_from}
 use Rattle.sql_read.specs.Grammar.{IsBatch}
-use Rattle.sql_read.specs.Place.{Begins, CantStand, IsFull, IsRefusedAt, IsRefusal}
+use Rattle.sql_read.specs.Place.{Begins, IsNoFile, IsWrong, IsRefusedAt, IsRefusal}
 use Rattle.sql_read.specs.declared.refusal.ParseRefusal.{ParseRefusal}
 use Rattle.sql_read.specs.declared.refusal.ParseRefusal.TheVariants.{Syntax, Memory}
 use Rattle.sql_read.specs.Steps.{FailsTo}
-use Rattle.sql_read.specs.Table.{Symbol, Key, Sign, AnyName, AnyNumber, Part, MoreNumbers, MoreColumns, MoreStmts, Finish, create_rest, insert_rest, select_rest, feed, start, run, onward, Verdict, Stops, is_mark, is_key, is_name, is_number, is_end}
+use Rattle.sql_read.specs.Table.{Symbol, Key, Word, Sign, AnyName, AnyNumber, AnyPath, Part, MoreNumbers, MoreColumns, MoreFiles, Created, MoreStmts, Finish, file_symbols, insert_rest, update_rest, select_rest, feed, start, run, onward, Verdict, Stops, is_mark, is_key, is_word, is_name, is_number, is_path, is_file_name, is_end}
 use Rattle.std.proofs.lemmas.List.{map-append}
 use Rattle.sql_read.proofs.CuttingLaws.{cut_lexes, lexes_cut}
 use Rattle.sql_read.proofs.Reaching.{and_then, steps, steps_append, steps_stmts}
 use Rattle.sql_read.proofs.Writing.{AreSpelled, AreCut, spelled_front, spelled_both, write_stmts, cut_kinds}
-use Rattle.sql_read.proofs.Meaning.{Means, IsOpen, step_back, complete, means_batch, passed, either, not_full, mark_is}
+use Rattle.sql_read.specs.Texts.{quoted}
+use Rattle.sql_read.proofs.FileLemmas.{file_name_passes, file_name_printable, last_part-name}
+use Rattle.sql_read.proofs.Meaning.{Means, IsOpen, TextOf, step_back, complete, means_batch, passed, either, not_full, mark_is, path_is}
+use Rattle.sql_read.proofs.BoolLemmas.{clash}
 
 -- a part too many comes next
 abbrev pub is_full : List Symbol → Bool
@@ -40,18 +46,24 @@ part_open parts next st s k comma same room = elim (cases_lt parts 64) [
   | inr many ↦ inr (comma, subst (λ (u : List Symbol). is_full u ≡ true) same (le-leb 64 parts many))
 ]
 
+files_open : (parts : ℕ) (st s : List Symbol) (k : TokenKind) → k ≡ kind.Mark mark.Comma → (Part parts ∷ (file_symbols ++ MoreFiles (parts + 1) ∷ st)) ≡ s → IsOpen true st → Follows k s
+files_open parts st s k comma same room = part_open parts (Sign mark.Open) (Word place.Name ∷ Sign mark.Equals ∷ AnyName ∷ Sign mark.Comma ∷ Word place.Filename ∷ Sign mark.Equals ∷ AnyPath ∷ Sign mark.Close ∷ MoreFiles (parts + 1) ∷ st) s k comma same (λ few. ((λ l. few), room))
+
 stmts_open : (st s : List Symbol) (k : TokenKind) (o : Option (List Symbol)) → IsOpen true st → (o ≡ Some s → Follows k s)
-    → cond (is_key word.Use k) (Some (AnyName ∷ MoreStmts ∷ st)) (cond (is_key word.Create k) (Some (create_rest ++ MoreStmts ∷ st)) (cond (is_key word.Insert k) (Some (insert_rest ++ MoreStmts ∷ st)) (cond (is_key word.Select k) (Some (select_rest ++ MoreStmts ∷ st)) o))) ≡ Some s
+    → cond (is_key word.Use k) (Some (AnyName ∷ MoreStmts ∷ st)) (cond (is_key word.Create k) (Some (Created ∷ MoreStmts ∷ st)) (cond (is_key word.Insert k) (Some (insert_rest ++ MoreStmts ∷ st)) (cond (is_key word.Update k) (Some (update_rest ++ MoreStmts ∷ st)) (cond (is_key word.Select k) (Some (select_rest ++ MoreStmts ∷ st)) o)))) ≡ Some s
     → Follows k s
 stmts_open st s k o room other e = elim (either (is_key word.Use k) _ s _ e) [
   | inl p ↦ inl (open_same _ s p.1 room)
   | inr f ↦ elim (either (is_key word.Create k) _ s _ f) [
-    | inl p ↦ inl (open_same _ s p.1 ((λ l. omega arith), room))
+    | inl p ↦ inl (open_same _ s p.1 room)
     | inr g ↦ elim (either (is_key word.Insert k) _ s _ g) [
       | inl p ↦ inl (open_same _ s p.1 ((λ l. omega arith), room))
-      | inr i ↦ elim (either (is_key word.Select k) _ s _ i) [
+      | inr i ↦ elim (either (is_key word.Update k) _ s _ i) [
         | inl p ↦ inl (open_same _ s p.1 room)
-        | inr l ↦ other l
+        | inr j ↦ elim (either (is_key word.Select k) _ s _ j) [
+          | inl p ↦ inl (open_same _ s p.1 room)
+          | inr l ↦ other l
+        ]
       ]
     ]
   ]
@@ -60,6 +72,16 @@ stmts_open st s k o room other e = elim (either (is_key word.Use k) _ s _ e) [
 step_open : (st s : List Symbol) (k : TokenKind) → IsOpen true st → feed true st k ≡ Some s → Follows k s
 step_open [] s k room e = cc
 step_open (Key w ∷ st) s k room e = inl (open_same st s (passed (is_key w k) st s e).1 room)
+step_open (Word w ∷ st) s k room e = inl (open_same st s (passed (is_word w k) st s e).1 room)
+step_open (AnyPath ∷ st) s k room e = inl (open_same st s (passed (is_path true k) st s e).1 room)
+step_open (MoreFiles parts ∷ st) s k room e = elim (either (is_mark mark.Comma k) _ s (feed true st k) e) [
+  | inl p ↦ files_open parts st s k (mark_is mark.Comma k p.0) p.1 room.1
+  | inr f ↦ step_open st s k room.1 f
+]
+step_open (Created ∷ st) s k room e = elim (either (is_key word.Database k) _ s _ e) [
+  | inl p ↦ inl (open_same _ s p.1 ((λ l. omega arith), room))
+  | inr f ↦ inl (open_same _ s (passed (is_key word.Table k) _ s f).1 ((λ l. omega arith), room))
+]
 step_open (Sign m ∷ st) s k room e = inl (open_same st s (passed (is_mark m k) st s e).1 room)
 step_open (AnyName ∷ st) s k room e = inl (open_same st s (passed (is_name k) st s e).1 room)
 step_open (AnyNumber ∷ st) s k room e = inl (open_same st s (passed (is_number k) st s e).1 room)
@@ -80,6 +102,10 @@ full_stops : (st : List Symbol) (k : TokenKind) → is_full st ≡ true → feed
 full_stops (Part others ∷ st) k full = rw full refl
 full_stops [] k full = cc
 full_stops (Key w ∷ st) k full = cc
+full_stops (Word w ∷ st) k full = cc
+full_stops (AnyPath ∷ st) k full = cc
+full_stops (MoreFiles parts ∷ st) k full = cc
+full_stops (Created ∷ st) k full = cc
 full_stops (Sign m ∷ st) k full = cc
 full_stops (AnyName ∷ st) k full = cc
 full_stops (AnyNumber ∷ st) k full = cc
@@ -92,6 +118,10 @@ full_shut : (st : List Symbol) → is_full st ≡ true → IsOpen true st → �
 full_shut (Part others ∷ st) full room = omega (arith, leb-true 64 others full, room.0 refl)
 full_shut [] full room = cc
 full_shut (Key w ∷ st) full room = cc
+full_shut (Word w ∷ st) full room = cc
+full_shut (AnyPath ∷ st) full room = cc
+full_shut (MoreFiles parts ∷ st) full room = cc
+full_shut (Created ∷ st) full room = cc
 full_shut (Sign m ∷ st) full room = cc
 full_shut (AnyName ∷ st) full room = cc
 full_shut (AnyNumber ∷ st) full room = cc
@@ -100,22 +130,89 @@ full_shut (MoreColumns parts ∷ st) full room = cc
 full_shut (MoreStmts ∷ st) full room = cc
 full_shut (Finish ∷ st) full room = cc
 
--- without the limit the table takes the same, where no list has too many parts
-loosen : (st : List Symbol) (k : TokenKind) → IsOpen true st → feed true st k ≡ feed false st k
-loosen [] k room = refl
-loosen (Key w ∷ st) k room = refl
-loosen (Sign m ∷ st) k room = refl
-loosen (AnyName ∷ st) k room = refl
-loosen (AnyNumber ∷ st) k room = refl
-loosen (Finish ∷ st) k room = refl
-loosen (Part others ∷ st) k room = let few : nat_le 64 others ≡ false = lt-leb 64 others (omega (arith, room.0 refl)) in rw few (loosen st k room.1)
-loosen (MoreNumbers parts ∷ st) k room = ap (cond (is_mark mark.Comma k) (Some (Part parts ∷ AnyNumber ∷ MoreNumbers (parts + 1) ∷ st))) (loosen st k room.1)
-loosen (MoreColumns parts ∷ st) k room = ap (cond (is_mark mark.Comma k) (Some (Part parts ∷ AnyName ∷ Key word.Int ∷ MoreColumns (parts + 1) ∷ st))) (loosen st k room.1)
-loosen (MoreStmts ∷ st) k room = rw (loosen st k room) refl
+-- a name of a file may come, and the token is a text that ends with none
+pub record WantsFile (st : List Symbol) (k : TokenKind) : Type 0 where
+  pub text : List ℕ
+  pub kind_is : k ≡ Text text
+  pub unnamed : IsFileName (last_part text) → ⊥
+  pub takes : (name : List ℕ) → IsFileName name → (s : List Symbol) × (feed true st (Text name) ≡ Some s)
+  pub loose : (s : List Symbol) × (feed false st k ≡ Some s)
+
+-- without the limits the table takes the same, or a text instead of a name of a file
+abbrev pub Loosens : List Symbol → TokenKind → Type 0
+Loosens st k = (feed true st k ≡ feed false st k) ⊎ WantsFile st k
+
+path_wanted : (st : List Symbol) (text : List ℕ) (v : Bool) → is_file_name (last_part text) ≡ v → Loosens (AnyPath ∷ st) (Text text)
+path_wanted st text true h = inl (rw h refl)
+path_wanted st text false h = inr (record {
+  text = text;
+  kind_is = refl;
+  unnamed = λ named. clash (is_file_name (last_part text)) (file_name_passes (last_part text) named) h;
+  takes = λ name named. (st, (let passes : is_file_name (last_part name) ≡ true = rw (last_part-name name named) (file_name_passes name named) in rw passes refl));
+  loose = (st, refl);
+})
+
+loosen_path : (st : List Symbol) (k : TokenKind) → Loosens (AnyPath ∷ st) k
+loosen_path st (Text text) = path_wanted st text (is_file_name (last_part text)) refl
+loosen_path st (kind.Key w) = inl refl
+loosen_path st (kind.Named name) = inl refl
+loosen_path st (kind.Number n) = inl refl
+loosen_path st (kind.Mark m) = inl refl
+loosen_path st kind.Bad = inl refl
+loosen_path st kind.End = inl refl
+
+either_false : (limited : Bool) (o : Option (List Symbol)) → cond (limited && false) None o ≡ o
+either_false true o = refl
+either_false false o = refl
+
+-- what stands before other symbols and takes no text
+wants_behind : (st more : List Symbol) (k : TokenKind) → ((text : List ℕ) (limited : Bool) → feed limited more (Text text) ≡ feed limited st (Text text)) → WantsFile st k → WantsFile more k
+wants_behind st more k same h = record {
+  text = h.text;
+  kind_is = h.kind_is;
+  unnamed = h.unnamed;
+  takes = λ name named. ((h.takes name named).0, same name true ∙ (h.takes name named).1);
+  loose = (h.loose.0, ap (feed false more) h.kind_is ∙ same h.text false ∙ ap (feed false st) (sym h.kind_is) ∙ h.loose.1);
+}
+
+loosen : (st : List Symbol) (k : TokenKind) → IsOpen true st → Loosens st k
+loosen [] k room = inl refl
+loosen (Key w ∷ st) k room = inl refl
+loosen (Word w ∷ st) k room = inl refl
+loosen (Sign m ∷ st) k room = inl refl
+loosen (AnyName ∷ st) k room = inl refl
+loosen (AnyNumber ∷ st) k room = inl refl
+loosen (Finish ∷ st) k room = inl refl
+loosen (Created ∷ st) k room = inl refl
+loosen (AnyPath ∷ st) k room = loosen_path st k
+loosen (Part others ∷ st) k room = let few : nat_le 64 others ≡ false = lt-leb 64 others (omega (arith, room.0 refl)) in elim (loosen st k room.1) [
+  | inl same ↦ inl (rw few same)
+  | inr wants ↦ inr (wants_behind st (Part others ∷ st) k (λ text limited. rw few (either_false limited (feed limited st (Text text)))) wants)
+]
+loosen (MoreNumbers parts ∷ st) k room = elim (loosen st k room.1) [
+  | inl same ↦ inl (ap (cond (is_mark mark.Comma k) (Some (Part parts ∷ AnyNumber ∷ MoreNumbers (parts + 1) ∷ st))) same)
+  | inr wants ↦ inr (wants_behind st (MoreNumbers parts ∷ st) k (λ text limited. refl) wants)
+]
+loosen (MoreColumns parts ∷ st) k room = elim (loosen st k room.1) [
+  | inl same ↦ inl (ap (cond (is_mark mark.Comma k) (Some (Part parts ∷ AnyName ∷ Key word.Int ∷ MoreColumns (parts + 1) ∷ st))) same)
+  | inr wants ↦ inr (wants_behind st (MoreColumns parts ∷ st) k (λ text limited. refl) wants)
+]
+loosen (MoreFiles parts ∷ st) k room = elim (loosen st k room.1) [
+  | inl same ↦ inl (ap (cond (is_mark mark.Comma k) (Some (Part parts ∷ (file_symbols ++ MoreFiles (parts + 1) ∷ st)))) same)
+  | inr wants ↦ inr (wants_behind st (MoreFiles parts ∷ st) k (λ text limited. refl) wants)
+]
+loosen (MoreStmts ∷ st) k room = elim (loosen st k room) [
+  | inl same ↦ inl (rw same refl)
+  | inr wants ↦ inr (wants_behind st (MoreStmts ∷ st) k (λ text limited. refl) wants)
+]
 
 open_anyway : (st : List Symbol) → IsOpen false st
 open_anyway [] = tt
 open_anyway (Key w ∷ st) = open_anyway st
+open_anyway (Word w ∷ st) = open_anyway st
+open_anyway (AnyPath ∷ st) = open_anyway st
+open_anyway (Created ∷ st) = open_anyway st
+open_anyway (MoreFiles parts ∷ st) = ((λ l. cc), open_anyway st)
 open_anyway (Sign m ∷ st) = open_anyway st
 open_anyway (AnyName ∷ st) = open_anyway st
 open_anyway (AnyNumber ∷ st) = open_anyway st
@@ -222,6 +319,10 @@ feed_bad : (limited : Bool) (st : List Symbol) → feed limited st kind.Bad ≡ 
 feed_bad limited [] = refl
 feed_bad limited (Key w ∷ st) = refl
 feed_bad limited (Sign m ∷ st) = refl
+feed_bad limited (Word w ∷ st) = refl
+feed_bad limited (AnyPath ∷ st) = refl
+feed_bad limited (Created ∷ st) = refl
+feed_bad limited (MoreFiles parts ∷ st) = feed_bad limited st
 feed_bad limited (AnyName ∷ st) = refl
 feed_bad limited (AnyNumber ∷ st) = refl
 feed_bad limited (Finish ∷ st) = refl
@@ -247,17 +348,24 @@ keep_on : (v : Bool) (x s : List Symbol) (o p : Option (List Symbol)) → (o ≡
 keep_on true x s o p h e = e
 keep_on false x s o p h e = h e
 
+path_loose : (k : TokenKind) → is_path true k ≡ true → is_path false k ≡ true
+path_loose k h = let t : TextOf true k = path_is true k h in rw t.1 refl
+
 still_takes : (st s : List Symbol) (k : TokenKind) → feed true st k ≡ Some s → feed false st k ≡ Some s
 still_takes [] s k e = e
 still_takes (Key w ∷ st) s k e = e
 still_takes (Sign m ∷ st) s k e = e
+still_takes (Word w ∷ st) s k e = e
+still_takes (Created ∷ st) s k e = e
+still_takes (AnyPath ∷ st) s k e = let p = passed (is_path true k) st s e in rw (path_loose k p.0, p.1) refl
+still_takes (MoreFiles parts ∷ st) s k e = keep_on (is_mark mark.Comma k) _ s _ _ (still_takes st s k) e
 still_takes (AnyName ∷ st) s k e = e
 still_takes (AnyNumber ∷ st) s k e = e
 still_takes (Finish ∷ st) s k e = e
 still_takes (Part others ∷ st) s k e = still_takes st s k (not_full (nat_le 64 others) s (feed true st k) e)
 still_takes (MoreNumbers parts ∷ st) s k e = keep_on (is_mark mark.Comma k) _ s _ _ (still_takes st s k) e
 still_takes (MoreColumns parts ∷ st) s k e = keep_on (is_mark mark.Comma k) _ s _ _ (still_takes st s k) e
-still_takes (MoreStmts ∷ st) s k e = keep_on (is_key word.Use k) _ s _ _ (keep_on (is_key word.Create k) _ s _ _ (keep_on (is_key word.Insert k) _ s _ _ (keep_on (is_key word.Select k) _ s _ _ (still_takes st s k)))) e
+still_takes (MoreStmts ∷ st) s k e = keep_on (is_key word.Use k) _ s _ _ (keep_on (is_key word.Create k) _ s _ _ (keep_on (is_key word.Insert k) _ s _ _ (keep_on (is_key word.Update k) _ s _ _ (keep_on (is_key word.Select k) _ s _ _ (still_takes st s k))))) e
 
 still_on : (st reached : List Symbol) (o : Option (List Symbol)) (k : TokenKind) (ks : List TokenKind) → feed true st k ≡ o → ((s : List Symbol) → steps true s ks ≡ Some reached → steps false s ks ≡ Some reached)
     → and_then (λ s. steps true s ks) o ≡ Some reached → steps false st (k ∷ ks) ≡ Some reached
@@ -287,17 +395,52 @@ over_rest front reached (k ∷ rest) goes full e =
 over_begins : (front : List TokenKind) (reached : List Symbol) → steps true start front ≡ Some reached → is_full reached ≡ true → Begins true front → ⊥
 over_begins front reached goes full b = over_rest front reached b.rest goes full (ap (steps true start) (sym b.split) ∙ steps_stmts true (kinds b.tokens) b.stmts b.whole)
 
+-- a token of a batch is spelled, but for a bad one
+abbrev pub IsCut : TokenKind → Type 0
+IsCut k = (k ≡ kind.Bad) ⊎ ((k ≡ kind.End) ⊎ ((bytes : List ℕ) × Spells bytes k))
+
+text_spelled : (k : TokenKind) (text : List ℕ) → k ≡ Text text → IsCut k → AreSpelled (k ∷ [])
+text_spelled k text e (inl bad) = let same : Text text ≡ kind.Bad = sym e ∙ bad in cc
+text_spelled k text e (inr good) = (good, tt)
+
+open_behind : (st s : List Symbol) (name : List ℕ) → IsOpen true st → feed true st (Text name) ≡ Some s → IsOpen true s
+open_behind st s name room e = elim (step_open st s (Text name) room e) [ inl more ↦ more | inr shut ↦ (let same : Text name ≡ kind.Mark mark.Comma = shut.0 in cc) ]
+
+cut_behind : (front rest : List TokenKind) (k : TokenKind) → AreCut (front ++ k ∷ rest) → IsCut k
+cut_behind [] rest k h = h.0
+cut_behind (j ∷ front) rest k h = cut_behind front rest k h.1
+
+steps_one : (limited : Bool) (front : List TokenKind) (k : TokenKind) (reached s : List Symbol) → steps limited start front ≡ Some reached → feed limited reached k ≡ Some s → steps limited start (front ++ k ∷ []) ≡ Some s
+steps_one limited front k reached s goes takes = steps_append limited start front (k ∷ []) ∙ rw (goes, takes) refl
+
+-- a name of a file could come, and a text that ends with none does
+no_file : (front : List TokenKind) (k : TokenKind) (reached : List Symbol) → AreSpelled front → IsCut k → IsOpen true reached → steps true start front ≡ Some reached → feed true reached k ≡ None → WantsFile reached k → IsNoFile front k
+no_file front k reached spelled cut room goes stuck h = record {
+  text = h.text;
+  kind_is = h.kind_is;
+  unnamed = h.unnamed;
+  wanted = λ name named. (let t = h.takes name named in begins_open (front ++ Text name ∷ []) t.0
+      (spelled_both front (Text name ∷ []) spelled (inr (quoted name, (refl, file_name_printable name named)), tt))
+      (open_behind reached t.0 name room t.1)
+      (steps_one true front (Text name) reached t.0 goes t.1));
+  none = none_begins true front k reached goes stuck;
+  unlimited = begins_loose (front ++ k ∷ []) h.loose.0 (spelled_both front (k ∷ []) spelled (text_spelled k h.text h.kind_is cut)) (steps_one false front k reached h.loose.0 (still_steps start reached front goes) h.loose.1);
+}
+
 -- why the table stops, in words of the grammar
-stuck_why : (front : List TokenKind) (k : TokenKind) (reached : List Symbol) → AreSpelled front → steps true start front ≡ Some reached → feed true reached k ≡ None → CantStand front k ⊎ IsFull front
-stuck_why front k reached spelled goes stuck = elim (reach start reached front start_open goes) [
-  | inl room ↦ inl (record { before = begins_open front reached spelled room goes; none = none_begins false front k reached (still_steps start reached front goes) (sym (loosen reached k room) ∙ stuck) })
-  | inr shut ↦ inr (record {
+stuck_why : (front : List TokenKind) (k : TokenKind) (reached : List Symbol) → AreSpelled front → IsCut k → steps true start front ≡ Some reached → feed true reached k ≡ None → IsWrong front k
+stuck_why front k reached spelled cut goes stuck = elim (reach start reached front start_open goes) [
+  | inl room ↦ elim (loosen reached k room) [
+    | inl same ↦ inl (record { before = begins_open front reached spelled room goes; none = none_begins false front k reached (still_steps start reached front goes) (sym same ∙ stuck) })
+    | inr wants ↦ inr (inr (no_file front k reached spelled cut room goes stuck wants))
+  ]
+  | inr shut ↦ inr (inl (record {
     shorter = shut.shorter;
     front_is = shut.split;
     before = begins_open shut.shorter shut.before (spelled_front shut.shorter _ (rw shut.split at spelled)) shut.room shut.goes;
     over = over_begins front reached goes shut.full;
     unlimited = begins_loose front reached spelled (still_steps start reached front goes);
-  })
+  }))
 ]
 
 never : (batch : List ℕ) (stmts : List Stmt) (front : List Token) (t : Token) (rest : List Token) (reached : List Symbol) → steps true start (kinds front) ≡ Some reached → feed true reached t.kind ≡ None
@@ -315,14 +458,15 @@ refused batch at e =
     let h = run_stuck true start (tokens_from batch 0) at e in
     let cut : Lexes 0 batch (h.front ++ h.token ∷ h.rest) = rw h.split at (cut_lexes batch) in
     let parts : kinds (h.front ++ h.token ∷ h.rest) ≡ kinds h.front ++ h.token.kind ∷ kinds h.rest = map-append (λ (u : Token). u.kind) h.front (h.token ∷ h.rest) in
-    let spelled : AreSpelled (kinds h.front) = taken_spelled start h.reached (kinds h.front) (h.token.kind ∷ kinds h.rest) (subst AreCut parts (cut_kinds 0 batch _ cut)) h.goes in
+    let all : AreCut (kinds h.front ++ h.token.kind ∷ kinds h.rest) = subst AreCut parts (cut_kinds 0 batch _ cut) in
+    let spelled : AreSpelled (kinds h.front) = taken_spelled start h.reached (kinds h.front) (h.token.kind ∷ kinds h.rest) all h.goes in
     record {
       front = h.front;
       token = h.token;
       rest = h.rest;
       lexes = cut;
       place = h.place;
-      why = stuck_why (kinds h.front) h.token.kind h.reached spelled h.goes h.stuck;
+      why = stuck_why (kinds h.front) h.token.kind h.reached spelled (cut_behind (kinds h.front) (kinds h.rest) h.token.kind all) h.goes h.stuck;
       stops = rw h.split at e;
       none = λ stmts b. never batch stmts h.front h.token h.rest h.reached h.goes h.stuck cut b;
     }

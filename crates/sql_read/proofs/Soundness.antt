@@ -9,7 +9,7 @@ use Rattle.plain_model.specs.declared.expr.Expr as expr
 use Rattle.plain_model.specs.declared.stmt.Stmt.{Stmt}
 use Rattle.plain_model.specs.Sound.{is_sound, is_entry, are_columns, are_distinct, is_definition, is_column}
 use Rattle.sql_read.specs.declared.token.TokenKind.{TokenKind}
-use Rattle.sql_read.specs.Grammar.{IsStmt, use_database, create_table, insert_row, select_all, key_column, plain_column}
+use Rattle.sql_read.specs.Grammar.{IsStmt, use_database, create_table, create_snap, insert_row, update_rows, select_all, key_column, plain_column}
 
 numbers_are_entries : (ns : List ℤ) → list_all is_entry (map (λ n. expr.Number n) ns) ≡ true
 numbers_are_entries [] = refl
@@ -46,5 +46,7 @@ twins false first others few h = refl
 pub sound_stmt : (ks : List TokenKind) (s : Stmt) → IsStmt true ks s → is_sound s ≡ true
 sound_stmt ks s (use_database name) = refl
 sound_stmt ks s (create_table name first others few) = twins _ first others (few refl) refl
+sound_stmt ks s (create_snap snap source first others few named) = refl
+sound_stmt ks s (update_rows name col n) = refl
 sound_stmt ks s (insert_row name first others few) = rw (numbers_are_entries others) refl
 sound_stmt ks s (select_all name) = refl

@@ -1,6 +1,6 @@
 -- The reserved word that some letters are.
 use Rattle.std.proofs.Common.{◌≡◌, ◌≢◌, ℕ, Bool, true, false, cond, List, [], ◌∷◌, refl, ap, sym, ◌∙◌, Option, length, map}
-use Rattle.std.specs.Prelude.{Some, None, find, nat_le}
+use Rattle.std.specs.Prelude.{Some, None, find, nat_le, codes}
 use Rattle.std.specs.Char.{to_ascii_lowercase}
 use Rattle.std.proofs.lemmas.Bool.{leb-true}
 use Rattle.std.specs.Str.{bytes_eq}
@@ -8,7 +8,9 @@ use Rattle.std.proofs.lemmas.Slice.Eq.{bytes_eq-Decides}
 use Rattle.sql_read.specs.declared.keyword.Keyword.{Keyword}
 use Rattle.sql_read.specs.declared.keyword.Keyword.TheVariants.{And, As, Asc, Begin, Between, Bigint, By, Clustered, Commit, Constraint, Count, Create, Database, Delete, Desc, Drop, From, In, Insert, Int, Into, Is, Key, Not, Null, Of, On, Or, Order, Primary, Restore, Rollback, Select, Set, Sum, Table, Tran, Transaction, Update, Use, Values, Varchar, Where}
 use Rattle.sql_read.specs.declared.token.TokenKind.TheVariants as kind
-use Rattle.sql_read.specs.Words.{text_of, keywords, keyword_of}
+use Rattle.sql_read.specs.declared.context_word.ContextWord.{ContextWord}
+use Rattle.sql_read.specs.declared.context_word.ContextWord.TheVariants as place
+use Rattle.sql_read.specs.Words.{text_of, keywords, keyword_of, letters_of}
 use Rattle.sql_read.specs.Tokens.{Spells}
 use Rattle.sql_read.specs.Cut.{IsWord}
 use Rattle.sql_read.proofs.Lexing.{word_is_name}
@@ -135,3 +137,9 @@ keyword_spelled word = let form = keyword_form word in (word_is_name (text_of wo
 -- other letters in lower case spell a name
 pub name_spelled : (letters : List ℕ) → HasNameForm letters → keyword_of letters ≡ None → Spells letters (kind.Named letters)
 name_spelled letters form other = (word_is_name letters form.0 (leb-true _ _ form.1), form.2, (λ word same. let found : keyword_of letters ≡ Some word = ap keyword_of same ∙ keyword_found word in cc))
+
+-- a word with a meaning in its place alone is spelled as a name
+pub word_spelled : (word : ContextWord) → Spells (letters_of word) (kind.Named (letters_of word))
+word_spelled place.Name = name_spelled (codes "name") ((refl, refl, refl), refl, refl) refl
+word_spelled place.Filename = name_spelled (codes "filename") ((refl, refl, refl), refl, refl) refl
+word_spelled place.Snapshot = name_spelled (codes "snapshot") ((refl, refl, refl), refl, refl) refl

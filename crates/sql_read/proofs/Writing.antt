@@ -1,23 +1,23 @@
 -- Bytes for tokens.
-use Rattle.std.proofs.Common.{◌≡◌, ℕ, suc, ◌+◌, ◌<◌, Bool, true, false, List, [], ◌∷◌, ◌++◌, length, arith, ap, sym, ◌∙◌, refl, subst, inl, inr, ◌⊎◌, get_or}
-use Rattle.std.specs.Prelude.{ℤ, flat_map, not, ◌&&◌, ◌==◌}
-use Rattle.std.proofs.lemmas.Bool.{eqb-true}
+use Rattle.std.proofs.Common.{◌≡◌, ℕ, suc, ◌+◌, Bool, true, false, List, [], ◌∷◌, ◌++◌, length, arith, ap, sym, ◌∙◌, refl, subst, inl, inr, ◌⊎◌}
+use Rattle.std.specs.Prelude.{ℤ, flat_map, not, ◌&&◌}
 use Rattle.std.specs.List.{list_all}
 use Rattle.std.specs.Char.{is_ascii_digit}
 use Rattle.plain_model.specs.declared.stmt.Stmt.{Stmt}
-use Rattle.sql_read.proofs.BoolLemmas.{is_false, both_hold}
+use Rattle.sql_read.proofs.BoolLemmas.{not_byte, both_hold}
+use Rattle.sql_read.proofs.FileLemmas.{all_pass}
 use Rattle.page_base.specs.Name.{IsName, is_name_byte}
 use Rattle.sql_read.specs.declared.token.Mark.TheVariants as mark
 use Rattle.sql_read.specs.declared.token.Token.{Token}
 use Rattle.sql_read.specs.declared.token.TokenKind.{TokenKind}
 use Rattle.sql_read.specs.declared.token.Mark.{Mark}
 use Rattle.sql_read.specs.declared.token.TokenKind.TheVariants as kind
-use Rattle.sql_read.specs.declared.token.TokenKind.TheVariants.{Key, Named, Number, Bad, End}
-use Rattle.sql_read.specs.Tokens.{is_white, goes_on, byte_of, AreDigits, Spells, IsToken, token, Lexes, end, white, next, kinds}
-use Rattle.sql_read.specs.Grammar.{IsStmt, use_database, create_table, insert_row, select_all, AreStmts, more_number, more_column}
+use Rattle.sql_read.specs.declared.token.TokenKind.TheVariants.{Key, Named, Number, Text, Bad, End}
+use Rattle.sql_read.specs.Texts.{is_quote, is_printable, quoted}
+use Rattle.sql_read.specs.Tokens.{is_white, goes_on, byte_of, AreDigits, Spells, IsToken, token, Lexes, end, white, next, text, unclosed, kinds}
+use Rattle.sql_read.specs.Grammar.{IsStmt, use_database, create_table, create_snap, insert_row, update_rows, select_all, AreStmts, FileText, more_file, more_number, more_column}
 use Rattle.sql_read.specs.Table.{is_end}
 use Rattle.sql_read.proofs.Lexing.{all_same}
-use Rattle.sql_read.proofs.CuttingLaws.{good_token}
 
 -- there are bytes for each of the tokens
 abbrev pub AreSpelled : List TokenKind → Type 0
@@ -44,16 +44,9 @@ spelled_both (k ∷ front) rest h i = (h.0, spelled_both front rest h.1 i)
 abbrev pub AreWritten : ℕ → List TokenKind → Type 0
 AreWritten at ks = (bytes : List ℕ) × (ts : List Token) × Lexes at bytes ts × (kinds ts ≡ ks)
 
-not_byte : (test : ℕ → Bool) (b n : ℕ) → test b ≡ true → test n ≡ false → (b == n) ≡ false
-not_byte test b n h i = is_false (b == n) (λ e. let same : test b ≡ test n = ap test (eqb-true b n e) in cc)
-
 -- what passes a test that no white byte passes isn't white
 dark : (test : ℕ → Bool) (b : ℕ) → test b ≡ true → test 32 ≡ false → test 9 ≡ false → test 10 ≡ false → is_white b ≡ false
 dark test b h space tab feed = rw (not_byte test b 32 h space, not_byte test b 9 h tab, not_byte test b 10 h feed) refl
-
-all_pass : (test : ℕ → Bool) (bs : List ℕ) → ((i d : ℕ) → i < length bs → test (get_or bs i d) ≡ true) → list_all test bs ≡ true
-all_pass test [] h = refl
-all_pass test (b ∷ bs) h = rw (h 0 0 (omega arith)) (all_pass test bs (λ i d within. h (suc i) d (omega (arith, within))))
 
 -- the bytes of a token, behind which a space ends it
 pub record IsTokenText (bytes : List ℕ) : Type 0 where
@@ -61,6 +54,7 @@ pub record IsTokenText (bytes : List ℕ) : Type 0 where
   pub more : List ℕ
   pub split : bytes ≡ first ∷ more
   pub dark : is_white first ≡ false
+  pub plain : is_quote first ≡ false
   pub all : list_all (goes_on first) more ≡ true
   pub ends : goes_on first 32 ≡ false
 
@@ -73,6 +67,7 @@ word_text (b ∷ bs) h =
       more = bs;
       split = refl;
       dark = dark is_name_byte b letter refl refl refl;
+      plain = not_byte is_name_byte b 39 letter refl;
       all = all_same (goes_on b) is_name_byte bs (λ c. rw (letter, h.starts) refl) ∙ all_pass is_name_byte bs (λ i d within. h.each (suc i) d (omega (arith, within)));
       ends = rw (letter, h.starts) refl;
     }
@@ -84,32 +79,41 @@ digits_text (b ∷ bs) h = record {
   more = bs;
   split = refl;
   dark = dark is_ascii_digit b h.0 refl refl refl;
+  plain = not_byte is_ascii_digit b 39 h.0 refl;
   all = all_same (goes_on b) is_ascii_digit bs (λ c. rw h.0 refl) ∙ (rw h.0 at h.1);
   ends = rw h.0 refl;
 }
 
 mark_text : (m : Mark) → IsTokenText (byte_of m ∷ [])
-mark_text mark.Open = record { first = 40; more = []; split = refl; dark = refl; all = refl; ends = refl }
-mark_text mark.Close = record { first = 41; more = []; split = refl; dark = refl; all = refl; ends = refl }
-mark_text mark.Comma = record { first = 44; more = []; split = refl; dark = refl; all = refl; ends = refl }
-mark_text mark.Star = record { first = 42; more = []; split = refl; dark = refl; all = refl; ends = refl }
+mark_text mark.Open = record { first = 40; more = []; split = refl; dark = refl; plain = refl; all = refl; ends = refl }
+mark_text mark.Close = record { first = 41; more = []; split = refl; dark = refl; plain = refl; all = refl; ends = refl }
+mark_text mark.Comma = record { first = 44; more = []; split = refl; dark = refl; plain = refl; all = refl; ends = refl }
+mark_text mark.Star = record { first = 42; more = []; split = refl; dark = refl; plain = refl; all = refl; ends = refl }
+mark_text mark.Equals = record { first = 61; more = []; split = refl; dark = refl; plain = refl; all = refl; ends = refl }
 
-token_text : (bytes : List ℕ) (k : TokenKind) → Spells bytes k → IsTokenText bytes
-token_text bytes (Key w) h = word_text bytes h.0
-token_text bytes (Named name) h = word_text bytes h.0
-token_text bytes (Number n) h = digits_text bytes h.0
-token_text bytes (kind.Mark m) h = rw h (mark_text m)
-token_text bytes Bad h = absurd h
-token_text bytes End h = absurd h
+-- a token that is no text and a space before other bytes
+write_plain : (at : ℕ) (bytes : List ℕ) (k : TokenKind) (ks : List TokenKind) → IsTokenText bytes → IsToken bytes k → ((from : ℕ) → AreWritten from ks) → AreWritten at (k ∷ ks)
+write_plain at bytes k ks form h more =
+    let is : IsToken (form.first ∷ form.more) k = rw form.split at h in
+    let place : ℕ = at + length (form.first ∷ form.more) in
+    let (others, ts, lexes, same) = more (place + 1) in
+    ((form.first ∷ form.more) ++ 32 ∷ others, token at k ∷ ts, next at form.first form.more (32 ∷ others) k ts form.dark form.plain form.all form.ends is (white place 32 others ts refl lexes), ap (λ (js : List TokenKind). k ∷ js) same)
+
+write_text : (at : ℕ) (content : List ℕ) (ks : List TokenKind) → list_all is_printable content ≡ true → ((from : ℕ) → AreWritten from ks) → AreWritten at (Text content ∷ ks)
+write_text at content ks all more =
+    let place : ℕ = at + length (quoted content) in
+    let (others, ts, lexes, same) = more (place + 1) in
+    (quoted content ++ 32 ∷ others, token at (Text content) ∷ ts, text at content (32 ∷ others) ts all refl (white place 32 others ts refl lexes), ap (λ (js : List TokenKind). Text content ∷ js) same)
 
 -- a token and a space before other bytes
 write_token : (at : ℕ) (bytes : List ℕ) (k : TokenKind) (ks : List TokenKind) → Spells bytes k → ((from : ℕ) → AreWritten from ks) → AreWritten at (k ∷ ks)
-write_token at bytes k ks h more =
-    let text = token_text bytes k h in
-    let is : IsToken (text.first ∷ text.more) k = rw text.split at (good_token bytes k h) in
-    let place : ℕ = at + length (text.first ∷ text.more) in
-    let (others, ts, lexes, same) = more (place + 1) in
-    ((text.first ∷ text.more) ++ 32 ∷ others, token at k ∷ ts, next at text.first text.more (32 ∷ others) k ts text.dark text.all text.ends is (white place 32 others ts refl lexes), ap (λ (js : List TokenKind). k ∷ js) same)
+write_token at bytes (Key w) ks h more = write_plain at bytes (Key w) ks (word_text bytes h.0) h more
+write_token at bytes (Named name) ks h more = write_plain at bytes (Named name) ks (word_text bytes h.0) h more
+write_token at bytes (Number n) ks h more = write_plain at bytes (Number n) ks (digits_text bytes h.0) h more
+write_token at bytes (Text content) ks h more = write_text at content ks h.1 more
+write_token at bytes (kind.Mark m) ks h more = write_plain at bytes (kind.Mark m) ks (rw h (mark_text m)) h more
+write_token at bytes Bad ks h more = absurd h
+write_token at bytes End ks h more = absurd h
 
 abbrev pub no_end : List TokenKind → Bool
 no_end ks = list_all (λ k. not (is_end k)) ks
@@ -122,9 +126,15 @@ columns_no_end : (ns : List (List ℕ)) → no_end (flat_map more_column ns ++ k
 columns_no_end [] = refl
 columns_no_end (n ∷ ns) = columns_no_end ns
 
+files_no_end : (files : List FileText) (rest : List TokenKind) → no_end rest ≡ true → no_end (flat_map more_file files ++ rest) ≡ true
+files_no_end [] rest h = h
+files_no_end (f ∷ fs) rest h = files_no_end fs rest h
+
 stmt_no_end : (limited : Bool) (front : List TokenKind) (s : Stmt) → IsStmt limited front s → no_end front ≡ true
 stmt_no_end limited front s (use_database name) = refl
 stmt_no_end limited front s (create_table name first others few) = columns_no_end others
+stmt_no_end limited front s (create_snap snap source first others few named) = files_no_end others _ refl
+stmt_no_end limited front s (update_rows name col n) = refl
 stmt_no_end limited front s (insert_row name first others few) = numbers_no_end others
 stmt_no_end limited front s (select_all name) = refl
 
@@ -134,7 +144,7 @@ write_front (k ∷ front) rest ends h more at =
     let both = both_hold (not (is_end k)) (no_end front) ends in
     elim h.0 [
       | inl e ↦ (let last : not (is_end k) ≡ false = rw e refl in cc)
-      | inr text ↦ write_token at text.0 k (front ++ rest) text.1 (λ from. write_front front rest both.1 h.1 more from)
+      | inr found ↦ write_token at found.0 k (front ++ rest) found.1 (λ from. write_front front rest both.1 h.1 more from)
     ]
 
 -- there are bytes for each list of statements that has tokens
@@ -155,9 +165,12 @@ cut_token bytes End h = absurd h
 cut_token bytes (Key w) h = inr (inr (bytes, h))
 cut_token bytes (Named name) h = inr (inr (bytes, h))
 cut_token bytes (Number n) h = inr (inr (bytes, h))
+cut_token bytes (Text content) h = inr (inr (bytes, h))
 cut_token bytes (kind.Mark m) h = inr (inr (bytes, h))
 
 pub cut_kinds : (at : ℕ) (bytes : List ℕ) (ts : List Token) → Lexes at bytes ts → AreCut (kinds ts)
 cut_kinds at bytes ts (end from) = (inr (inl refl), tt)
 cut_kinds at bytes ts (white from b rest us w h) = cut_kinds (from + 1) rest us h
-cut_kinds at bytes ts (next from first more rest what us nw all stop is h) = (cut_token (first ∷ more) what is, cut_kinds (from + length (first ∷ more)) rest us h)
+cut_kinds at bytes ts (next from first more rest what us nw plain all stop is h) = (cut_token (first ∷ more) what is, cut_kinds (from + length (first ∷ more)) rest us h)
+cut_kinds at bytes ts (text from content rest us all stop h) = (inr (inr (quoted content, (refl, all))), cut_kinds (from + length (quoted content)) rest us h)
+cut_kinds at bytes ts (unclosed from rest us never h) = (inl refl, cut_kinds (from + 1) rest us h)

@@ -1,24 +1,29 @@
 -- How the first token of some bytes is found, and the tokens behind it.
 use Rattle.std.specs.List.{list_all, prefix_len}
-use Rattle.std.specs.Prelude.{◌≡◌, true, false, ℕ, zero, suc, ◌+◌, Bool, ◌==◌, nat_le, if◌then◌else◌, List, [], ◌∷◌, length, map, take, drop, pos, Option, Some, None}
+use Rattle.std.specs.Prelude.{◌≡◌, true, false, ℕ, zero, suc, ◌+◌, Bool, ◌==◌, nat_le, if◌then◌else◌, List, [], ◌∷◌, length, map, take, drop, pos, Option, Some, None, unwrap_or, ◌-◌}
 use Rattle.std.specs.Char.{to_ascii_lowercase, is_ascii_digit}
 use Rattle.page_base.specs.Name.{is_name_byte}
 use Rattle.sql_read.specs.declared.keyword.Keyword.{Keyword}
-use Rattle.sql_read.specs.declared.token.Mark.TheVariants.{Open, Close, Comma, Star}
+use Rattle.sql_read.specs.declared.token.Mark.TheVariants.{Open, Close, Comma, Star, Equals}
 use Rattle.sql_read.specs.declared.token.Token.{Token}
 use Rattle.sql_read.specs.declared.token.TokenKind.{TokenKind}
-use Rattle.sql_read.specs.declared.token.TokenKind.TheVariants.{Key, Named, Number, Mark, Bad, End}
+use Rattle.sql_read.specs.declared.token.TokenKind.TheVariants.{Key, Named, Number, Text, Mark, Bad, End}
 use Rattle.sql_read.specs.Words.{keyword_of}
+use Rattle.sql_read.specs.Texts.{is_quote, doubled, undoubled, text_end}
 use Rattle.sql_read.specs.Tokens.{is_white, goes_on, number_of, token}
 
 -- how many white bytes stand in front
 abbrev pub white_len : List ℕ → ℕ
 white_len bytes = prefix_len is_white bytes
 
+-- how many bytes behind its first the token has
+abbrev pub more_len : ℕ → List ℕ → ℕ
+more_len first bs = if is_quote first then unwrap_or (text_end false 0 bs) 0 else prefix_len (goes_on first) bs
+
 -- how many bytes the token in front has
 abbrev pub token_len : List ℕ → ℕ
 token_len [] = 0
-token_len (b ∷ bs) = prefix_len (goes_on b) bs + 1
+token_len (b ∷ bs) = more_len b bs + 1
 
 -- a number token, bad where the number is too large
 abbrev pub number_kind : ℕ → TokenKind
@@ -35,12 +40,25 @@ word_kind bytes = if nat_le (length bytes) 128 then name_kind (map to_ascii_lowe
 
 -- the kind of a byte that is no letter, digit or `_`
 abbrev pub mark_kind : ℕ → TokenKind
-mark_kind b = if b == 40 then Mark Open else (if b == 41 then Mark Close else (if b == 44 then Mark Comma else (if b == 42 then Mark Star else Bad)))
+mark_kind b = if b == 40 then Mark Open else (if b == 41 then Mark Close else (if b == 44 then Mark Comma else (if b == 42 then Mark Star else (if b == 61 then Mark Equals else Bad))))
 
--- the bytes of a token: one that isn't white, and those that go on with it
+-- all but the last byte
+abbrev pub front_of : List ℕ → List ℕ
+front_of bytes = take (length bytes - 1) bytes
+
+-- the kind of a quote with these bytes behind it, bad where there is none
+abbrev pub text_kind : List ℕ → TokenKind
+text_kind [] = Bad
+text_kind (b ∷ bs) = Text (undoubled (front_of (b ∷ bs)))
+
+-- behind a quote: a text with its quotes doubled, and the closing one
+abbrev pub IsTextRest : List ℕ → Type 0
+IsTextRest bytes = doubled (undoubled (front_of bytes)) ≡ front_of bytes
+
+-- the bytes of a token: a quote alone or a text, or another byte that isn't white, and those that go on with it
 abbrev pub IsPiece : List ℕ → Type 0
 IsPiece [] = Unit {0}
-IsPiece (b ∷ bs) = list_all (goes_on b) bs ≡ true
+IsPiece (b ∷ bs) = (is_quote b ≡ true → IsTextRest bs) × (is_quote b ≡ false → list_all (goes_on b) bs ≡ true)
 
 -- a letter or `_`, and the letters, digits and `_` behind it
 abbrev pub IsWord : List ℕ → Type 0
@@ -50,7 +68,7 @@ IsWord (b ∷ bs) = (is_ascii_digit b ≡ false) × (is_name_byte b ≡ true) ×
 -- the kind of the token that has these bytes
 abbrev pub kind_of : List ℕ → TokenKind
 kind_of [] = End
-kind_of (b ∷ bs) = if is_ascii_digit b then number_kind (number_of (b ∷ bs)) else (if is_name_byte b then word_kind (b ∷ bs) else mark_kind b)
+kind_of (b ∷ bs) = if is_ascii_digit b then number_kind (number_of (b ∷ bs)) else (if is_name_byte b then word_kind (b ∷ bs) else (if is_quote b then text_kind bs else mark_kind b))
 
 -- the kind of the token in front
 abbrev pub first_kind : List ℕ → TokenKind
@@ -64,7 +82,7 @@ joined white same t ts = if white then same else t ∷ ts
 unfoldable pub cut : ℕ → ℕ → List ℕ → List Token
 cut before at [] = token at End ∷ []
 cut (suc before) at (b ∷ bs) = cut before (at + 1) bs
-cut zero at (b ∷ bs) = joined (is_white b) (cut zero (at + 1) bs) (token at (first_kind (b ∷ bs))) (cut (prefix_len (goes_on b) bs) (at + 1) bs)
+cut zero at (b ∷ bs) = joined (is_white b) (cut zero (at + 1) bs) (token at (first_kind (b ∷ bs))) (cut (more_len b bs) (at + 1) bs)
 
 -- nothing stands behind the end
 abbrev pub behind : TokenKind → List Token → List Token

@@ -2,17 +2,21 @@
 use Rattle.std.specs.Prelude.{ℕ, ◌+◌, ◌≤◌, ◌≡◌, Bool, true, false, if◌then◌else◌, List, [], ◌∷◌, ◌++◌, length, map, flat_map, ℤ, None}
 use Rattle.page_base.specs.declared.column.Column.{Column}
 use Rattle.page_base.specs.declared.column.ColType.TheVariants as types
+use Rattle.page_base.specs.FileName.{IsFileName, last_part}
 use Rattle.plain_model.specs.declared.expr.Expr as expr
 use Rattle.plain_model.specs.declared.expr.Expr.{Expr}
 use Rattle.plain_model.specs.declared.stmt.Stmt.{Stmt}
-use Rattle.plain_model.specs.declared.stmt.Stmt.TheVariants.{UseDb, CreateTable, Insert, Select}
+use Rattle.plain_model.specs.declared.stmt.SnapFile.{SnapFile}
+use Rattle.plain_model.specs.declared.stmt.Stmt.TheVariants.{UseDb, CreateTable, CreateSnap, Insert, Select, Update}
 use Rattle.plain_model.specs.declared.stmt.Items.TheVariants as items
 use Rattle.plain_model.specs.Sound.{are_distinct}
+use Rattle.sql_read.specs.declared.context_word.ContextWord.TheVariants as place
 use Rattle.sql_read.specs.declared.keyword.Keyword.TheVariants as word
 use Rattle.sql_read.specs.declared.token.Mark.TheVariants as mark
 use Rattle.sql_read.specs.declared.token.Token.{Token}
 use Rattle.sql_read.specs.declared.token.TokenKind.{TokenKind}
-use Rattle.sql_read.specs.declared.token.TokenKind.TheVariants.{Key, Named, Number, Mark, End}
+use Rattle.sql_read.specs.declared.token.TokenKind.TheVariants.{Key, Named, Number, Text, Mark, End}
+use Rattle.sql_read.specs.Words.{letters_of}
 use Rattle.sql_read.specs.Tokens.{Lexes, kinds}
 
 -- , number
@@ -39,7 +43,29 @@ without_twins columns = if are_distinct (map (λ c. c.name) columns) then column
 abbrev pub MayHave : Bool → ℕ → Type 0
 MayHave limited parts = limited ≡ true → parts ≤ 64
 
--- These tokens are a statement. The grammar may be limited or not in the number of parts of a list.
+-- a file of a snapshot as it is written: the name of a data file, and a text that ends with the name of a sparse file
+pub record FileText : Type 0 where
+  pub logical : List ℕ
+  pub path : List ℕ
+
+-- ( NAME = name , FILENAME = text )
+abbrev pub file_tokens : FileText → List TokenKind
+file_tokens file = Mark mark.Open ∷ Named (letters_of place.Name) ∷ Mark mark.Equals ∷ Named file.logical ∷ Mark mark.Comma ∷ Named (letters_of place.Filename) ∷ Mark mark.Equals ∷ Text file.path ∷ Mark mark.Close ∷ []
+
+-- , file
+abbrev pub more_file : FileText → List TokenKind
+more_file file = Mark mark.Comma ∷ file_tokens file
+
+-- the file that is written
+abbrev pub file_of : FileText → SnapFile
+file_of file = record { logical = file.logical; path = last_part file.path }
+
+-- each text ends with a name of a file, where this is limited
+abbrev pub AreFiles : Bool → List FileText → Type 0
+AreFiles limited [] = Unit {0}
+AreFiles limited (file ∷ files) = (limited ≡ true → IsFileName (last_part file.path)) × AreFiles limited files
+
+-- These tokens are a statement. The grammar may be limited or not in the number of parts of a list, and to texts that name files.
 pub data IsStmt (limited : Bool) : List TokenKind → Stmt → Type 0 where
   -- USE name
   use_database : (name : List ℕ) → IsStmt limited (Key word.Use ∷ Named name ∷ []) (UseDb name)
@@ -47,10 +73,17 @@ pub data IsStmt (limited : Bool) : List TokenKind → Stmt → Type 0 where
   create_table : (name first : List ℕ) (others : List (List ℕ)) → MayHave limited (length others + 1)
       → IsStmt limited (Key word.Create ∷ Key word.Table ∷ Named name ∷ Mark mark.Open ∷ Named first ∷ Key word.Int ∷ Key word.Primary ∷ Key word.Key ∷ (flat_map more_column others ++ Mark mark.Close ∷ []))
       (CreateTable name (without_twins (key_column first ∷ map plain_column others)))
+  -- CREATE DATABASE name ON file { , file } AS SNAPSHOT OF name
+  create_snap : (snap source : List ℕ) (first : FileText) (others : List FileText) → MayHave limited (length others + 1) → AreFiles limited (first ∷ others)
+      → IsStmt limited (Key word.Create ∷ Key word.Database ∷ Named snap ∷ Key word.On ∷ (file_tokens first ++ (flat_map more_file others ++ Key word.As ∷ Named (letters_of place.Snapshot) ∷ Key word.Of ∷ Named source ∷ [])))
+      (CreateSnap snap (map file_of (first ∷ others)) source)
   -- INSERT name VALUES ( number { , number } )
   insert_row : (name : List ℕ) (first : ℤ) (others : List ℤ) → MayHave limited (length others + 1)
       → IsStmt limited (Key word.Insert ∷ Named name ∷ Key word.Values ∷ Mark mark.Open ∷ Number first ∷ (flat_map more_number others ++ Mark mark.Close ∷ []))
       (Insert (record { table = name; cols = []; rows = map (λ n. expr.Number n) (first ∷ others) ∷ [] }))
+  -- UPDATE name SET name = number
+  update_rows : (name col : List ℕ) (n : ℤ) → IsStmt limited (Key word.Update ∷ Named name ∷ Key word.Set ∷ Named col ∷ Mark mark.Equals ∷ Number n ∷ [])
+      (Update (record { table = name; sets = record { col = col; to = expr.Number n } ∷ []; filter = None }))
   -- SELECT * FROM name
   select_all : (name : List ℕ) → IsStmt limited (Key word.Select ∷ Mark mark.Star ∷ Key word.From ∷ Named name ∷ [])
       (Select (record { table = name; items = items.Star; filter = None; order = [] }))

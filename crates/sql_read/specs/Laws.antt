@@ -1,10 +1,10 @@
 -- What the grammar promises of itself: one cutting, one reading, one place.
-use Rattle.std.specs.Prelude.{ℕ, ◌≡◌, ◌⊎◌, List, ◌∷◌, ◌++◌}
+use Rattle.std.specs.Prelude.{ℕ, ◌≡◌, List, ◌∷◌, ◌++◌}
 use Rattle.plain_model.specs.declared.stmt.Stmt.{Stmt}
 use Rattle.sql_read.specs.declared.token.Token.{Token}
 use Rattle.sql_read.specs.Tokens.{Lexes, kinds}
 use Rattle.sql_read.specs.Grammar.{IsBatch}
-use Rattle.sql_read.specs.Place.{CantStand, IsFull}
+use Rattle.sql_read.specs.Place.{IsWrong}
 
 -- all bytes are cut into tokens, and in one way
 abbrev pub HasOneCutting : List ℕ → Type 0
@@ -14,11 +14,7 @@ HasOneCutting batch = (ts : List Token) × Lexes 0 batch ts × ((us : List Token
 abbrev pub HasOneReading : List ℕ → Type 0
 HasOneReading batch = (ss us : List Stmt) → IsBatch batch ss → IsBatch batch us → ss ≡ us
 
--- the token behind the front can't stand, or begins a 65th part
-abbrev pub IsWrong : List Token → Token → Type 0
-IsWrong front token = CantStand (kinds front) token.kind ⊎ IsFull (kinds front)
-
 -- of the tokens of a batch one at most is the wrong one
 abbrev pub HasOnePlace : List Token → Type 0
 HasOnePlace ts = (front more : List Token) (t u : Token) (rest others : List Token)
-    → ts ≡ front ++ t ∷ rest → ts ≡ more ++ u ∷ others → IsWrong front t → IsWrong more u → (front ≡ more) × (t ≡ u)
+    → ts ≡ front ++ t ∷ rest → ts ≡ more ++ u ∷ others → IsWrong (kinds front) t.kind → IsWrong (kinds more) u.kind → (front ≡ more) × (t ≡ u)

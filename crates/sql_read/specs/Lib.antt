@@ -1,4 +1,5 @@
 pub mod Words
+pub mod Texts
 pub mod Tokens
 pub mod Cut
 pub mod Grammar

@@ -1,18 +1,20 @@
 -- What one step of reading does with the tokens that are left.
-use Rattle.std.specs.Prelude.{ℕ, ◌≡◌, ◌≤◌, ◌+◌, Bool, true, false, List, [], ◌∷◌, ◌++◌, length, map, flat_map, ℤ, pos, Result, Ok, Err}
+use Rattle.std.specs.Prelude.{ℕ, ◌≡◌, ◌≤◌, ◌+◌, Bool, true, false, List, [], ◌∷◌, ◌++◌, length, map, flat_map, ℤ, pos, Option, Some, None, Result, Ok, Err}
 use Rattle.plain_model.specs.declared.expr.Expr as expr
 use Rattle.plain_model.specs.declared.expr.Expr.{Expr}
 use Rattle.plain_model.specs.declared.stmt.Stmt.{Stmt}
+use Rattle.plain_model.specs.declared.stmt.SnapFile.{SnapFile}
 use Rattle.page_base.specs.declared.column.Column.{Column}
+use Rattle.page_base.specs.FileName.{IsFileName, last_part}
 use Rattle.sql_read.specs.declared.keyword.Keyword.TheVariants as word
 use Rattle.sql_read.specs.declared.refusal.ParseRefusal.{ParseRefusal}
 use Rattle.sql_read.specs.declared.refusal.ParseRefusal.TheVariants.{Syntax, Memory}
 use Rattle.sql_read.specs.declared.token.Token.{Token}
 use Rattle.sql_read.specs.declared.token.TokenKind.{TokenKind}
-use Rattle.sql_read.specs.declared.token.TokenKind.TheVariants.{Key, Named, Number, End}
+use Rattle.sql_read.specs.declared.token.TokenKind.TheVariants.{Key, Named, Number, Text, End}
 use Rattle.sql_read.specs.Tokens.{token}
-use Rattle.sql_read.specs.Grammar.{IsStmt, more_number, more_column, key_column, plain_column}
-use Rattle.sql_read.specs.Table.{Verdict, Stops, is_end}
+use Rattle.sql_read.specs.Grammar.{IsStmt, more_number, more_column, key_column, plain_column, FileText, AreFiles, file_tokens, more_file, file_of}
+use Rattle.sql_read.specs.Table.{Verdict, Stops, is_end, is_path}
 
 -- a refusal names the place where the table stops
 abbrev pub FailsTo : ParseRefusal → Verdict → Type 0
@@ -81,4 +83,32 @@ pub record ReadsColumns (cols : List Column) (old new : List TokenKind) : Type 0
   pub others : List (List ℕ)
   pub cols_are : cols ≡ key_column first ∷ map plain_column others
   pub split : old ≡ Named first ∷ Key word.Int ∷ Key word.Primary ∷ Key word.Key ∷ (flat_map more_column others ++ new)
+  pub few : length others + 1 ≤ 64
+
+-- a text that ends with the name of a file
+pub record ReadsPath (name : List ℕ) (old new : List TokenKind) : Type 0 where
+  pub text : List ℕ
+  pub split : old ≡ Text text ∷ new
+  pub named : IsFileName (last_part text)
+  pub is : name ≡ last_part text
+
+-- the token is a text that ends with this name of a file, or it is no such text
+abbrev pub IsPathOf : Option (List ℕ) → TokenKind → Type 0
+IsPathOf (Some name) k = (text : List ℕ) × (k ≡ Text text) × IsFileName (last_part text) × (name ≡ last_part text)
+IsPathOf None k = is_path true k ≡ false
+
+-- ( NAME = name , FILENAME = text )
+pub record ReadsFile (file : SnapFile) (old new : List TokenKind) : Type 0 where
+  pub written : FileText
+  pub split : old ≡ file_tokens written ++ new
+  pub named : IsFileName (last_part written.path)
+  pub file_is : file ≡ file_of written
+
+-- file { , file }
+pub record ReadsFiles (files : List SnapFile) (old new : List TokenKind) : Type 0 where
+  pub first : FileText
+  pub others : List FileText
+  pub files_are : files ≡ map file_of (first ∷ others)
+  pub split : old ≡ file_tokens first ++ (flat_map more_file others ++ new)
+  pub named : AreFiles true (first ∷ others)
   pub few : length others + 1 ≤ 64

@@ -5,11 +5,12 @@ use Rattle.std.specs.Char.{to_ascii_lowercase, is_ascii_digit}
 use Rattle.page_base.specs.Name.{IsName, is_name_byte}
 use Rattle.sql_read.specs.declared.keyword.Keyword.{Keyword}
 use Rattle.sql_read.specs.declared.token.Mark.{Mark}
-use Rattle.sql_read.specs.declared.token.Mark.TheVariants.{Open, Close, Comma, Star}
+use Rattle.sql_read.specs.declared.token.Mark.TheVariants.{Open, Close, Comma, Star, Equals}
 use Rattle.sql_read.specs.declared.token.Token.{Token}
 use Rattle.sql_read.specs.declared.token.TokenKind.{TokenKind}
 use Rattle.sql_read.specs.declared.token.TokenKind.TheVariants as kind
 use Rattle.sql_read.specs.Words.{text_of}
+use Rattle.sql_read.specs.Texts.{is_quote, is_printable, quoted}
 
 -- space, tab and line feed
 abbrev pub is_white : ℕ → Bool
@@ -39,17 +40,19 @@ byte_of Open = 40
 byte_of Close = 41
 byte_of Comma = 44
 byte_of Star = 42
+byte_of Equals = 61
 
 -- one or more digits
 abbrev pub AreDigits : List ℕ → Type 0
 AreDigits bytes = (starts is_ascii_digit bytes ≡ true) × (list_all is_ascii_digit bytes ≡ true)
 
 -- The bytes spell a token that has a place in the grammar: a reserved word in any case, another name, which is kept in lower case,
--- a number of at most 2147483647, or a mark.
+-- a number of at most 2147483647, a text in quotes, or a mark.
 abbrev pub Spells : List ℕ → TokenKind → Type 0
 Spells bytes (kind.Key word) = IsName bytes × (map to_ascii_lowercase bytes ≡ text_of word)
 Spells bytes (kind.Named name) = IsName bytes × (map to_ascii_lowercase bytes ≡ name) × ((word : Keyword) → name ≢ text_of word)
 Spells bytes (kind.Number n) = AreDigits bytes × (number_of bytes ≤ 2147483647) × (n ≡ pos (number_of bytes))
+Spells bytes (kind.Text text) = (bytes ≡ quoted text) × (list_all is_printable text ≡ true)
 Spells bytes (kind.Mark mark) = bytes ≡ byte_of mark ∷ []
 Spells bytes kind.Bad = ⊥
 Spells bytes kind.End = ⊥
@@ -60,6 +63,7 @@ IsToken bytes kind.Bad = (other : TokenKind) → Spells bytes other → ⊥
 IsToken bytes (kind.Key word) = Spells bytes (kind.Key word)
 IsToken bytes (kind.Named name) = Spells bytes (kind.Named name)
 IsToken bytes (kind.Number n) = Spells bytes (kind.Number n)
+IsToken bytes (kind.Text text) = Spells bytes (kind.Text text)
 IsToken bytes (kind.Mark mark) = Spells bytes (kind.Mark mark)
 IsToken bytes kind.End = ⊥
 
@@ -67,13 +71,21 @@ IsToken bytes kind.End = ⊥
 abbrev pub token : ℕ → TokenKind → Token
 token at what = record { at = at; kind = what }
 
+-- a text that isn't closed begins here: no text in quotes stands in front, behind which no quote follows
+abbrev pub IsUnclosed : List ℕ → Type 0
+IsUnclosed bytes = (text rest : List ℕ) → list_all is_printable text ≡ true → starts is_quote rest ≡ false → bytes ≡ quoted text ++ rest → ⊥
+
 -- The bytes from this place on are these tokens, parted by white space, and the end. Each token is as long as it can be.
+-- The quote of a text that isn't closed is a bad token.
 pub data Lexes : ℕ → List ℕ → List Token → Type 0 where
   end : (at : ℕ) → Lexes at [] (token at kind.End ∷ [])
   white : (at b : ℕ) (rest : List ℕ) (ts : List Token) → is_white b ≡ true → Lexes (at + 1) rest ts → Lexes at (b ∷ rest) ts
-  next : (at first : ℕ) (more rest : List ℕ) (what : TokenKind) (ts : List Token) → is_white first ≡ false
+  next : (at first : ℕ) (more rest : List ℕ) (what : TokenKind) (ts : List Token) → is_white first ≡ false → is_quote first ≡ false
       → list_all (goes_on first) more ≡ true → starts (goes_on first) rest ≡ false → IsToken (first ∷ more) what
       → Lexes (at + length (first ∷ more)) rest ts → Lexes at (first ∷ more ++ rest) (token at what ∷ ts)
+  text : (at : ℕ) (content rest : List ℕ) (ts : List Token) → list_all is_printable content ≡ true → starts is_quote rest ≡ false
+      → Lexes (at + length (quoted content)) rest ts → Lexes at (quoted content ++ rest) (token at (kind.Text content) ∷ ts)
+  unclosed : (at : ℕ) (rest : List ℕ) (ts : List Token) → IsUnclosed (39 ∷ rest) → Lexes (at + 1) rest ts → Lexes at (39 ∷ rest) (token at kind.Bad ∷ ts)
 
 -- what each token is
 abbrev pub kinds : List Token → List TokenKind

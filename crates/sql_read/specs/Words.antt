@@ -1,6 +1,8 @@
--- The letters of each reserved word.
+-- The letters of each word.
 use Rattle.std.specs.Prelude.{ℕ, Bool, List, [], ◌∷◌, codes, Option, find}
 use Rattle.std.specs.Str.{bytes_eq}
+use Rattle.sql_read.specs.declared.context_word.ContextWord.{ContextWord}
+use Rattle.sql_read.specs.declared.context_word.ContextWord.TheVariants.{Name, Filename, Snapshot}
 use Rattle.sql_read.specs.declared.keyword.Keyword.{Keyword}
 use Rattle.sql_read.specs.declared.keyword.Keyword.TheVariants.{And, As, Asc, Begin, Between, Bigint, By, Clustered, Commit, Constraint, Count, Create, Database, Delete, Desc, Drop, From, In, Insert, Int, Into, Is, Key, Not, Null, Of, On, Or, Order, Primary, Restore, Rollback, Select, Set, Sum, Table, Tran, Transaction, Update, Use, Values, Varchar, Where}
 
@@ -61,3 +63,9 @@ keyword_of letters = find (λ word. bytes_eq letters (text_of word)) keywords
 -- whether two reserved words are one
 abbrev pub is_same : Keyword → Keyword → Bool
 is_same a b = bytes_eq (text_of a) (text_of b)
+
+-- a word that has a meaning in its place alone, in lower case
+abbrev pub letters_of : ContextWord → List ℕ
+letters_of Name = codes "name"
+letters_of Filename = codes "filename"
+letters_of Snapshot = codes "snapshot"

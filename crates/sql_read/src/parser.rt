@@ -5,13 +5,14 @@ ghost use Rattle.sql_read.specs.declared.refusal.ParseRefusal.TheVariants.{Synta
 ghost use Rattle.sql_read.specs.declared.token.TokenKind.TheVariants as kind;
 ghost use Rattle.sql_read.specs.declared.token.Mark.TheVariants.{Comma};
 ghost use Rattle.sql_read.specs.Cut.{tokens_from};
+ghost use Rattle.sql_read.specs.Words.{letters_of};
 ghost use Rattle.sql_read.specs.Tokens.{kinds};
-ghost use Rattle.sql_read.specs.Table.{Symbol, Key, Sign, AnyName, AnyNumber, Part, is_key, is_mark, run};
-ghost use Rattle.sql_read.specs.Steps.{Passes, Eats, IsEnd, ReadsNumber};
+ghost use Rattle.sql_read.specs.Table.{Symbol, Key, Word, Sign, AnyName, AnyNumber, AnyPath, Part, is_key, is_mark, run};
+ghost use Rattle.sql_read.specs.Steps.{Passes, Eats, IsEnd, ReadsNumber, ReadsPath, IsPathOf};
 
 use crate::lexer::token_from;
-use crate::{Keyword, Mark, ParseRefusal, Token, TokenKind};
-use page_base::Name;
+use crate::{ContextWord, Keyword, Mark, ParseRefusal, Token, TokenKind};
+use page_base::{FileName, Name};
 use plain_model::Expr;
 
 // No list parted by commas has more parts.
@@ -22,7 +23,7 @@ const MOST_PARTS: usize = 64;
 pub(crate) struct Parser<'t> {
     batch: &'t [u8],
     at: usize,
-    next: Token,
+    next: Token<'t>,
     ghost within: { at ≤ length batch.now },
     ghost short: { length batch.now < 4294967295 },
 }
@@ -59,7 +60,7 @@ impl<'t> Parser<'t> {
     pub(crate) fn is_at_end(&self) -> bool
         ensures { IsEnd result (left self.now) }
     {
-        match self.next.kind {
+        match &self.next.kind {
             TokenKind::End => true,
             _ => false,
         }
@@ -70,8 +71,22 @@ impl<'t> Parser<'t> {
         ensures spelled { IfOk result (λ x. kinds (left self.old) ≡ kind.Key wanted ∷ kinds (left self.new)) }
         ensures passes { (st : List Symbol) → Passes result (run true (Key wanted ∷ st) (left self.old)) (run true st (left self.new)) }
     {
-        match self.next.kind {
+        match &self.next.kind {
             TokenKind::Key(found) if found.is_same(wanted) => {
+                self.advance();
+                Ok(())
+            }
+            _ => Err(self.refused()),
+        }
+    }
+
+    // Takes the word that has a meaning in its place alone.
+    pub(crate) fn word(&mut self, wanted: ContextWord) -> Result<(), ParseRefusal>
+        ensures spelled { IfOk result (λ x. kinds (left self.old) ≡ kind.Named (letters_of wanted) ∷ kinds (left self.new)) }
+        ensures passes { (st : List Symbol) → Passes result (run true (Word wanted ∷ st) (left self.old)) (run true st (left self.new)) }
+    {
+        match &self.next.kind {
+            TokenKind::Named(name) if name.is_text(wanted.text().as_bytes()) => {
                 self.advance();
                 Ok(())
             }
@@ -84,9 +99,8 @@ impl<'t> Parser<'t> {
         ensures spelled { IfOk result (λ x. kinds (left self.old) ≡ kind.Mark wanted ∷ kinds (left self.new)) }
         ensures passes { (st : List Symbol) → Passes result (run true (Sign wanted ∷ st) (left self.old)) (run true st (left self.new)) }
     {
-        let kind = self.next.kind;
-        match kind {
-            TokenKind::Mark(found) if found == wanted => {
+        match &self.next.kind {
+            TokenKind::Mark(found) if *found == wanted => {
                 self.advance();
                 Ok(())
             }
@@ -99,9 +113,9 @@ impl<'t> Parser<'t> {
         ensures spelled { IfOk result (λ x. kinds (left self.old) ≡ kind.Named x ∷ kinds (left self.new)) }
         ensures passes { (st : List Symbol) → Passes result (run true (AnyName ∷ st) (left self.old)) (run true st (left self.new)) }
     {
-        let kind = self.next.kind;
-        match kind {
+        match &self.next.kind {
             TokenKind::Named(name) => {
+                let name = *name;
                 self.advance();
                 Ok(name)
             }
@@ -114,12 +128,37 @@ impl<'t> Parser<'t> {
         ensures spelled { IfOk result (λ e. ReadsNumber e (kinds (left self.old)) (kinds (left self.new))) }
         ensures passes { (st : List Symbol) → Passes result (run true (AnyNumber ∷ st) (left self.old)) (run true st (left self.new)) }
     {
-        match self.next.kind {
+        match &self.next.kind {
             TokenKind::Number(number) => {
+                let number = *number;
                 self.advance();
                 Ok(Expr::Number(number))
             }
             _ => Err(self.refused()),
+        }
+    }
+
+    // The name of a file with which the next token ends, if it is such a text.
+    fn path_ahead(&self) -> Option<FileName>
+        ensures { IsPathOf result self.now.next.kind }
+    {
+        match &self.next.kind {
+            TokenKind::Text(text) => text.file_name(),
+            _ => None,
+        }
+    }
+
+    // Takes a text that ends with the name of a file.
+    pub(crate) fn path(&mut self) -> Result<FileName, ParseRefusal>
+        ensures spelled { IfOk result (λ x. ReadsPath x (kinds (left self.old)) (kinds (left self.new))) }
+        ensures passes { (st : List Symbol) → Passes result (run true (AnyPath ∷ st) (left self.old)) (run true st (left self.new)) }
+    {
+        match self.path_ahead() {
+            Some(name) => {
+                self.advance();
+                Ok(name)
+            }
+            None => Err(self.refused()),
         }
     }
 
@@ -139,7 +178,7 @@ impl<'t> Parser<'t> {
     pub(crate) fn eat_comma(&mut self) -> bool
         ensures { Eats (is_mark Comma) result (kind.Mark Comma) (left self.old) (left self.new) }
     {
-        match self.next.kind {
+        match &self.next.kind {
             TokenKind::Mark(Mark::Comma) => {
                 self.advance();
                 true
@@ -152,7 +191,7 @@ impl<'t> Parser<'t> {
     pub(crate) fn eat_key(&mut self, wanted: Keyword) -> bool
         ensures { Eats (is_key wanted) result (kind.Key wanted) (left self.old) (left self.new) }
     {
-        match self.next.kind {
+        match &self.next.kind {
             TokenKind::Key(found) if found.is_same(wanted) => {
                 self.advance();
                 true

@@ -9,8 +9,8 @@ use thiserror::Error;
 /// Why a batch isn't read.
 #[derive(Clone, Copy, Debug, PartialEq, Eq, Error)]
 pub enum ParseRefusal {
-    /// When the batch isn't in the grammar: the place of the first byte of the first token that can't stand, or of the
-    /// first token of the 65th part of a list, or the batch's length where it ends too early.
+    /// When the batch isn't in the grammar: the place of the first byte of the first token that can't stand, of the first
+    /// token of the 65th part of a list, or of a text that names no file, or the batch's length where it ends too early.
     #[error("a token at {at} can't stand")]
     Syntax { at: u32 },
     /// When no memory was found.

@@ -8,13 +8,16 @@ ghost use Rattle.sql_read.specs.declared.keyword.Keyword.TheVariants as word;
 ghost use Rattle.sql_read.specs.declared.token.TokenKind.TheVariants as kind;
 ghost use Rattle.sql_read.specs.Tokens.{kinds};
 ghost use Rattle.sql_read.specs.Grammar.{without_twins};
-ghost use Rattle.sql_read.specs.Table.{Symbol, Key, AnyName, AnyNumber, MoreNumbers, MoreColumns, create_rest, insert_rest, select_rest, start, run, is_end};
-ghost use Rattle.sql_read.specs.Steps.{Passes, Reads, ReadsNumbers, ReadsColumns, ReadsKeyColumn, ReadsPlainColumn, begins_with};
+ghost use Rattle.sql_read.specs.Table.{Symbol, Key, AnyName, AnyNumber, MoreNumbers, MoreColumns, MoreFiles, Created, table_rest, file_symbols, snap_rest, insert_rest, update_rest, select_rest, start, run, is_end};
+ghost use Rattle.sql_read.specs.Steps.{Passes, Reads, ReadsNumbers, ReadsColumns, ReadsKeyColumn, ReadsPlainColumn, ReadsFile, ReadsFiles, begins_with};
 
 use crate::parser::Parser;
-use crate::{Keyword, Mark, ParseRefusal};
+use crate::{ContextWord, Keyword, Mark, ParseRefusal};
 use page_base::{ColType, Column, Columns, Name};
-use plain_model::{ExprList, ExprRows, InsertStmt, Items, Names, OrderList, SelectStmt, Stmt};
+use plain_model::{
+    ExprList, ExprRows, InsertStmt, Items, Names, OrderList, SelectStmt, SetItem, SetList,
+    SnapFile, SnapFiles, Stmt, UpdateStmt,
+};
 use std::alloc::Global;
 
 // Whether one of the columns has the name.
@@ -114,17 +117,76 @@ impl Parser<'_> {
         Ok(row)
     }
 
-    // behind CREATE: TABLE name ( columns )
-    fn create(&mut self, alloc: Global) -> Result<Stmt, ParseRefusal>
-        ensures spelled { IfOk result (λ stmt. Reads stmt (kind.Key word.Create ∷ kinds (left self.old)) (kinds (left self.new))) }
-        ensures passes { (st : List Symbol) → Passes result (run true (create_rest ++ st) (left self.old)) (run true st (left self.new)) }
+    // ( NAME = name , FILENAME = text )
+    fn file(&mut self) -> Result<SnapFile, ParseRefusal>
+        ensures spelled { IfOk result (λ file. ReadsFile file (kinds (left self.old)) (kinds (left self.new))) }
+        ensures passes { (st : List Symbol) → Passes result (run true (file_symbols ++ st) (left self.old)) (run true st (left self.new)) }
     {
-        self.key(Keyword::Table)?;
+        self.mark(Mark::Open)?;
+        self.word(ContextWord::Name)?;
+        self.mark(Mark::Equals)?;
+        let logical = self.name()?;
+        self.mark(Mark::Comma)?;
+        self.word(ContextWord::Filename)?;
+        self.mark(Mark::Equals)?;
+        let path = self.path()?;
+        self.mark(Mark::Close)?;
+        Ok(SnapFile { logical, path })
+    }
+
+    // file { , file }
+    fn files(&mut self, alloc: Global) -> Result<SnapFiles, ParseRefusal>
+        ensures spelled { IfOk result (λ files. ReadsFiles files (kinds (left self.old)) (kinds (left self.new))) }
+        ensures passes { (st : List Symbol) → Passes result (run true (file_symbols ++ MoreFiles 1 ∷ st) (left self.old)) (run true st (left self.new)) }
+    {
+        let mut files = SnapFiles::new(alloc);
+        let first = self.file()?;
+        files.push(first)?;
+        while self.eat_comma() {
+            self.part(files.len())?;
+            let file = self.file()?;
+            files.push(file)?;
+        }
+        Ok(files)
+    }
+
+    // behind CREATE DATABASE: name ON files AS SNAPSHOT OF name
+    fn create_snap(&mut self, alloc: Global) -> Result<Stmt, ParseRefusal>
+        ensures spelled { IfOk result (λ stmt. Reads stmt (kind.Key word.Create ∷ kind.Key word.Database ∷ kinds (left self.old)) (kinds (left self.new))) }
+        ensures passes { (st : List Symbol) → Passes result (run true (snap_rest ++ st) (left self.old)) (run true st (left self.new)) }
+    {
+        let snap = self.name()?;
+        self.key(Keyword::On)?;
+        let files = self.files(alloc)?;
+        self.key(Keyword::As)?;
+        self.word(ContextWord::Snapshot)?;
+        self.key(Keyword::Of)?;
+        let of = self.name()?;
+        Ok(Stmt::CreateSnap { snap, files, of })
+    }
+
+    // behind CREATE TABLE: name ( columns )
+    fn create_table(&mut self, alloc: Global) -> Result<Stmt, ParseRefusal>
+        ensures spelled { IfOk result (λ stmt. Reads stmt (kind.Key word.Create ∷ kind.Key word.Table ∷ kinds (left self.old)) (kinds (left self.new))) }
+        ensures passes { (st : List Symbol) → Passes result (run true (table_rest ++ st) (left self.old)) (run true st (left self.new)) }
+    {
         let name = self.name()?;
         self.mark(Mark::Open)?;
         let columns = self.columns(alloc)?;
         self.mark(Mark::Close)?;
         Ok(Stmt::CreateTable(name, without_twins(alloc, columns)))
+    }
+
+    // behind CREATE: a snapshot or a table
+    fn create(&mut self, alloc: Global) -> Result<Stmt, ParseRefusal>
+        ensures spelled { IfOk result (λ stmt. Reads stmt (kind.Key word.Create ∷ kinds (left self.old)) (kinds (left self.new))) }
+        ensures passes { (st : List Symbol) → Passes result (run true (Created ∷ st) (left self.old)) (run true st (left self.new)) }
+    {
+        if self.eat_key(Keyword::Database) {
+            return self.create_snap(alloc);
+        }
+        self.key(Keyword::Table)?;
+        self.create_table(alloc)
     }
 
     // behind INSERT: name VALUES ( numbers )
@@ -141,6 +203,25 @@ impl Parser<'_> {
         let mut rows = ExprRows::new(alloc);
         rows.push(row)?;
         Ok(Stmt::Insert(InsertStmt { table, cols, rows }))
+    }
+
+    // behind UPDATE: name SET name = number
+    fn update(&mut self, alloc: Global) -> Result<Stmt, ParseRefusal>
+        ensures spelled { IfOk result (λ stmt. Reads stmt (kind.Key word.Update ∷ kinds (left self.old)) (kinds (left self.new))) }
+        ensures passes { (st : List Symbol) → Passes result (run true (update_rest ++ st) (left self.old)) (run true st (left self.new)) }
+    {
+        let table = self.name()?;
+        self.key(Keyword::Set)?;
+        let col = self.name()?;
+        self.mark(Mark::Equals)?;
+        let to = self.number()?;
+        let mut sets = SetList::new(alloc);
+        sets.push(SetItem { col, to })?;
+        Ok(Stmt::Update(UpdateStmt {
+            table,
+            sets,
+            filter: None,
+        }))
     }
 
     // behind SELECT: * FROM name
@@ -182,6 +263,9 @@ impl Parser<'_> {
         }
         if self.eat_key(Keyword::Insert) {
             return self.insert(alloc);
+        }
+        if self.eat_key(Keyword::Update) {
+            return self.update(alloc);
         }
         self.key(Keyword::Select)?;
         self.select(alloc)

@@ -63,9 +63,129 @@ const BATCHES: [(&str, Outcome); 23] = [
     ),
 ];
 
+// Snapshots and updates; a text is refused at its opening quote.
+const SNAPSHOTS_AND_UPDATES: [(&str, Outcome); 37] = [
+    (
+        "CREATE DATABASE s1 ON (NAME = shop_data, FILENAME = 's1.ss') AS SNAPSHOT OF shop",
+        Outcome::Read(1),
+    ),
+    (
+        "create database S on(name=a,filename='A.ss'),(Name=b,FileName='b-1.ss')as snapshot of B",
+        Outcome::Read(1),
+    ),
+    (
+        "CREATE DATABASE filename ON (NAME = name, FILENAME = 'snapshot') AS SNAPSHOT OF snapshot",
+        Outcome::Read(1),
+    ),
+    ("UPDATE t SET v = 20", Outcome::Read(1)),
+    (
+        "UPDATE t SET v=2147483647UPDATE name SET snapshot=0",
+        Outcome::Read(2),
+    ),
+    ("UPDATE t SET v = 2147483648", Outcome::RefusedAt(17)),
+    ("UPDATE t SET v = -1", Outcome::RefusedAt(17)),
+    ("UPDATE t SET v = 1 WHERE", Outcome::RefusedAt(19)),
+    ("UPDATE t SET v = 1, w = 2", Outcome::RefusedAt(18)),
+    ("UPDATE t SET v =", Outcome::RefusedAt(16)),
+    ("UPDATE t v = 1", Outcome::RefusedAt(9)),
+    ("CREATE", Outcome::RefusedAt(6)),
+    ("CREATE INT t", Outcome::RefusedAt(7)),
+    ("CREATE DATABASE s", Outcome::RefusedAt(17)),
+    ("CREATE DATABASE s ON ()", Outcome::RefusedAt(22)),
+    (
+        "CREATE DATABASE s ON (FILENAME = 'a.ss', NAME = a) AS SNAPSHOT OF b",
+        Outcome::RefusedAt(22),
+    ),
+    (
+        "CREATE DATABASE s ON (NAME = a FILENAME = 'a.ss') AS SNAPSHOT OF b",
+        Outcome::RefusedAt(31),
+    ),
+    (
+        "CREATE DATABASE s ON (NAME = a, FILENAME = '.ss') AS SNAPSHOT OF b",
+        Outcome::RefusedAt(43),
+    ),
+    (
+        "CREATE DATABASE s ON (NAME = a, FILENAME = 'a b') AS SNAPSHOT OF b",
+        Outcome::RefusedAt(43),
+    ),
+    (
+        "CREATE DATABASE s ON (NAME = a, FILENAME = '') AS SNAPSHOT OF b",
+        Outcome::RefusedAt(43),
+    ),
+    (
+        "CREATE DATABASE s ON (NAME = a, FILENAME = 'it''s.ss') AS SNAPSHOT OF b",
+        Outcome::RefusedAt(43),
+    ),
+    (
+        "CREATE DATABASE s ON (NAME = a, FILENAME = 'a\n.ss') AS SNAPSHOT OF b",
+        Outcome::RefusedAt(43),
+    ),
+    (
+        "CREATE DATABASE s ON (NAME = a, FILENAME = '/data/x/s1.ss') AS SNAPSHOT OF b",
+        Outcome::Read(1),
+    ),
+    (
+        "CREATE DATABASE s ON (NAME = a, FILENAME = 'c:\\data\\s1.ss') AS SNAPSHOT OF b",
+        Outcome::Read(1),
+    ),
+    (
+        "CREATE DATABASE s ON (NAME = a, FILENAME = 'it''s/s1.ss') AS SNAPSHOT OF b",
+        Outcome::Read(1),
+    ),
+    (
+        "CREATE DATABASE s ON (NAME = a, FILENAME = 's1.ss/') AS SNAPSHOT OF b",
+        Outcome::RefusedAt(43),
+    ),
+    (
+        "CREATE DATABASE s ON (NAME = a, FILENAME = a) AS SNAPSHOT OF b",
+        Outcome::RefusedAt(43),
+    ),
+    (
+        "CREATE DATABASE s ON (NAME = a, FILENAME = 5) AS SNAPSHOT OF b",
+        Outcome::RefusedAt(43),
+    ),
+    (
+        "CREATE DATABASE s ON (NAME = a, FILENAME = 'a.ss) AS SNAPSHOT OF b",
+        Outcome::RefusedAt(43),
+    ),
+    (
+        "CREATE DATABASE s ON (NAME = a, FILENAME = 'a.ss'')",
+        Outcome::RefusedAt(43),
+    ),
+    (
+        "CREATE DATABASE s ON (NAME = a, FILENAME = 'a.ss' 'b.ss') AS SNAPSHOT OF b",
+        Outcome::RefusedAt(50),
+    ),
+    (
+        "CREATE DATABASE s ON (NAME = a, FILENAME = 'a.ss') AS snap OF b",
+        Outcome::RefusedAt(54),
+    ),
+    (
+        "CREATE DATABASE s ON (NAME = a, FILENAME = 'a.ss') OF b",
+        Outcome::RefusedAt(51),
+    ),
+    (
+        "CREATE DATABASE s ON (NAME = a, FILENAME = 'a.ss'), AS SNAPSHOT OF b",
+        Outcome::RefusedAt(52),
+    ),
+    (
+        "CREATE DATABASE s ON (NAME = a, FILENAME = 'a.ss') AS SNAPSHOT OF",
+        Outcome::RefusedAt(65),
+    ),
+    ("USE 'a'", Outcome::RefusedAt(4)),
+    ("INSERT t VALUES ('a')", Outcome::RefusedAt(17)),
+];
+
 #[test]
 fn batches_are_read_or_refused_at_their_place(rt: HostRuntime) {
     for (batch, want) in BATCHES {
+        assert_eq!(rt;
+            outcome_of(rt.alloc(), batch.as_bytes()),
+            want,
+            "at {batch}"
+        );
+    }
+    for (batch, want) in SNAPSHOTS_AND_UPDATES {
         assert_eq!(rt;
             outcome_of(rt.alloc(), batch.as_bytes()),
             want,
@@ -91,7 +211,7 @@ fn repeated(
 }
 
 // A front, a part and how often it stands, an end, and what comes of them.
-const LONG_BATCHES: [(&str, &str, usize, &str, Outcome); 9] = [
+const LONG_BATCHES: [(&str, &str, usize, &str, Outcome); 13] = [
     // names of 128 and of 129 bytes
     ("USE ", "n", 128, "", Outcome::Read(1)),
     ("USE ", "n", 129, "", Outcome::RefusedAt(4)),
@@ -120,6 +240,36 @@ const LONG_BATCHES: [(&str, &str, usize, &str, Outcome); 9] = [
         63,
         "v INT)",
         Outcome::RefusedAt(539),
+    ),
+    // 64 and 65 files; the 65th stands behind 21 bytes and 64 times 22
+    (
+        "CREATE DATABASE s ON ",
+        "(NAME=a,FILENAME='a'),",
+        63,
+        "(NAME=a,FILENAME='a')AS SNAPSHOT OF b",
+        Outcome::Read(1),
+    ),
+    (
+        "CREATE DATABASE s ON ",
+        "(NAME=a,FILENAME='a'),",
+        64,
+        "(NAME=a,FILENAME='a')AS SNAPSHOT OF b",
+        Outcome::RefusedAt(1429),
+    ),
+    // names of files of 128 and of 129 bytes
+    (
+        "CREATE DATABASE s ON (NAME = a, FILENAME = '/data/",
+        "f",
+        128,
+        "') AS SNAPSHOT OF b",
+        Outcome::Read(1),
+    ),
+    (
+        "CREATE DATABASE s ON (NAME = a, FILENAME = '/data/",
+        "f",
+        129,
+        "') AS SNAPSHOT OF b",
+        Outcome::RefusedAt(43),
     ),
     ("", "USE shop ", 1000, "", Outcome::Read(1000)),
 ];
@@ -240,5 +390,63 @@ fn a_column_named_twice_leaves_none(rt: HostRuntime) -> Result<(), Fail> {
     )?;
     assert_eq!(rt; stmts.len(), 1);
     assert!(rt; is_create(stmts.at(0), b"t".as_slice(), [].as_slice()));
+    Ok(())
+}
+
+// CREATE DATABASE of a snapshot of a source over files of these logical names and sparse names.
+fn is_snapshot(stmt: &Stmt, name: &[u8], names: &[(&[u8], &[u8])], source: &[u8]) -> bool {
+    match stmt {
+        Stmt::CreateSnap { snap, files, of } => {
+            let files = files.as_slice();
+            snap.is_text(name)
+                && of.is_text(source)
+                && files.len() == names.len()
+                && files.iter().zip(names).all(|(file, (logical, path))| {
+                    file.logical.is_text(logical) && file.path.bytes() == *path
+                })
+        }
+        _ => false,
+    }
+}
+
+// UPDATE of one column of all rows to a number.
+fn is_update(stmt: &Stmt, name: &[u8], col: &[u8], number: i64) -> bool {
+    match stmt {
+        Stmt::Update(update) if update.filter.is_none() && update.sets.len() == 1 => {
+            let set = update.sets.at(0);
+            update.table.is_text(name) && set.col.is_text(col) && is_number(&set.to, number)
+        }
+        _ => false,
+    }
+}
+
+#[test]
+fn snapshots_and_updates_have_their_trees(rt: HostRuntime) -> Result<(), Fail> {
+    let stmts = read(
+        rt.alloc(),
+        b"CREATE DATABASE s1 ON (NAME = shop_data, FILENAME = 's1.ss') AS SNAPSHOT OF shop\nUPDATE T SET v = 20\nCREATE DATABASE S2 ON (NAME = One, FILENAME = 'c:\\data\\S2.ss'), (NAME = two, FILENAME = '/data/x/it''s/s-2') AS SNAPSHOT OF Shop".as_slice(),
+    )?;
+    assert_eq!(rt; stmts.len(), 3);
+    assert!(rt;
+        is_snapshot(
+            stmts.at(0),
+            b"s1".as_slice(),
+            [(b"shop_data".as_slice(), b"s1.ss".as_slice())].as_slice(),
+            b"shop".as_slice()
+        )
+    );
+    assert!(rt; is_update(stmts.at(1), b"t".as_slice(), b"v".as_slice(), 20));
+    assert!(rt;
+        is_snapshot(
+            stmts.at(2),
+            b"s2".as_slice(),
+            [
+                (b"one".as_slice(), b"S2.ss".as_slice()),
+                (b"two".as_slice(), b"s-2".as_slice())
+            ]
+            .as_slice(),
+            b"shop".as_slice()
+        )
+    );
     Ok(())
 }

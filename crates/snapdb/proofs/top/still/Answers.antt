@@ -1,18 +1,28 @@
 use Rattle.std.proofs.Common.{inl, inr, refl}
 use Rattle.snapdb.specs.Headline.{Usage, usage_line}
+use Rattle.snapdb.specs.Closed.{told_text}
 use Rattle.snapdb.proofs.Refusals.{writes_line, writes_front}
+use Rattle.snapdb.proofs.Closings.{tells_close, may_be_told}
 use Rattle.snapdb.proofs.top.still.Goals as goal
 
 pub returns-then-not-is_play-clause-refused : goal.returns-then-not-is_play-clause-refused
-returns-then-not-is_play-clause-refused g c = λ two. (usage_line, Usage (λ p. cc (c.if-not-is_play.ensures.1 p)), c.written.ensures.all two, c.new.ensures)
+returns-then-not-is_play-clause-refused g c = λ two. ((usage_line, Usage (λ p. cc (c.if-not-is_play.ensures.1 p)), c.written.ensures.all two), c.new.ensures, refl)
 
 pub returns-then-not-is_play-clause-front : goal.returns-then-not-is_play-clause-front
 returns-then-not-is_play-clause-front g c = inr (usage_line, inl (Usage (λ p. cc (c.if-not-is_play.ensures.1 p)), c.new.ensures), c.written.ensures.front)
 
+pub returns-in-Ok-clause-closed : goal.returns-in-Ok-clause-closed
+returns-in-Ok-clause-closed g c = λ seven.
+    (c.if-not-is_play.ensures.0 refl, c.in-Ok.ensures.tells, tells_close _ _ _ _ _ _ c.in-Ok.field-0.end c.in-Ok.ensures.fault c.told_status.ensures.known c.told_status.ensures.all seven)
+
+pub returns-in-Ok-clause-front : goal.returns-in-Ok-clause-front
+returns-in-Ok-clause-front g c = inr (told_text c.in-Ok.field-0.book c.in-Ok.field-0.end,
+    inr (c.if-not-is_play.ensures.0 refl, c.in-Ok.ensures.tells, may_be_told c.in-Ok.field-0.book 0 (g.K.Sink.taken c.args.out.now) (g.K.Sink.taken c.args.out.now) _ _ c.in-Ok.field-0.end c.in-Ok.ensures.fault), c.told_status.ensures.front)
+
 pub returns-in-Err-clause-refused : goal.returns-in-Err-clause-refused
-returns-in-Err-clause-refused g c =
-    writes_line _ _ _ _ _ _ _ _ _ c.play.result (c.if-not-is_play.ensures.0 refl) c.new-in-Err.ensures c.play.ensures.long c.play.ensures.unbuilt c.in-Err.refusal c.in-Err.is c.refused_status.ensures
+returns-in-Err-clause-refused g c = λ two.
+    (writes_line _ _ _ _ _ _ _ _ _ _ _ (c.if-not-is_play.ensures.0 refl) c.new-in-Err.ensures c.in-Err.field-0.why c.in-Err.ensures.why c.refused_status.ensures two, c.new-in-Err.ensures, c.in-Err.ensures.kept)
 
 pub returns-in-Err-clause-front : goal.returns-in-Err-clause-front
 returns-in-Err-clause-front g c =
-    writes_front _ _ _ _ _ _ _ _ _ c.play.result (c.if-not-is_play.ensures.0 refl) c.new-in-Err.ensures c.play.ensures.long c.play.ensures.unbuilt c.in-Err.refusal c.in-Err.is c.refused_status.ensures
+    writes_front _ _ _ _ _ _ _ _ _ _ _ (c.if-not-is_play.ensures.0 refl) c.new-in-Err.ensures _ _ _ _ c.in-Err.field-0.why c.in-Err.ensures.why c.refused_status.ensures

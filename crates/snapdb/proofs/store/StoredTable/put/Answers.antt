@@ -1,5 +1,0 @@
-use Rattle.snapdb.proofs.StoreLemmas.{stored-put}
-use Rattle.snapdb.proofs.store.StoredTable.put.Goals as goal
-
-pub returns-clause-ok : goal.returns-clause-ok
-returns-clause-ok c = stored-put _ _ _ _ _ _ c.self.view_is c.requires c.insert.ensures.was_ordered c.insert.ensures.ordered c.in_ok-insert.ensures.entries
