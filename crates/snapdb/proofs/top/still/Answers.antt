@@ -16,8 +16,11 @@ returns-in-Ok-clause-closed g c = λ seven.
     (c.if-not-is_play.ensures.0 refl, c.in-Ok.ensures.tells, tells_close _ _ _ _ _ _ c.in-Ok.field-0.end c.in-Ok.ensures.fault c.told_status.ensures.known c.told_status.ensures.all seven)
 
 pub returns-in-Ok-clause-front : goal.returns-in-Ok-clause-front
-returns-in-Ok-clause-front g c = inr (told_text c.in-Ok.field-0.book c.in-Ok.field-0.end,
-    inr (c.if-not-is_play.ensures.0 refl, c.in-Ok.ensures.tells, may_be_told c.in-Ok.field-0.book 0 (g.K.Sink.taken c.args.out.now) (g.K.Sink.taken c.args.out.now) _ _ c.in-Ok.field-0.end c.in-Ok.ensures.fault), c.told_status.ensures.front)
+returns-in-Ok-clause-front g c = inr (
+  told_text c.in-Ok.field-0.book c.in-Ok.field-0.end,
+  inr (c.if-not-is_play.ensures.0 refl, c.in-Ok.ensures.tells, may_be_told c.in-Ok.field-0.book 0 (g.K.Sink.taken c.args.out.now) (g.K.Sink.taken c.args.out.now) _ _ c.in-Ok.field-0.end c.in-Ok.ensures.fault),
+  c.told_status.ensures.front,
+)
 
 pub returns-in-Err-clause-refused : goal.returns-in-Err-clause-refused
 returns-in-Err-clause-refused g c = λ two.

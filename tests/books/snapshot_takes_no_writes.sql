@@ -1,0 +1,9 @@
+:session 1
+CREATE DATABASE s1 ON (NAME = shop_data, FILENAME = 's1.ss') AS SNAPSHOT OF shop
+USE s1
+UPDATE t SET v = 1
+INSERT t VALUES (1, 10)
+CREATE TABLE t (id INT PRIMARY KEY)
+SELECT * FROM t
+USE master
+UPDATE t SET v = 1

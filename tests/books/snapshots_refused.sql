@@ -1,0 +1,12 @@
+:session 1
+CREATE DATABASE s1 ON (NAME = shop_data, FILENAME = 's1.ss') AS SNAPSHOT OF shop
+CREATE DATABASE shop ON (NAME = shop_data, FILENAME = 'a.ss') AS SNAPSHOT OF shop
+CREATE DATABASE MASTER ON (NAME = shop_data, FILENAME = 'a.ss') AS SNAPSHOT OF shop
+CREATE DATABASE S1 ON (NAME = shop_data, FILENAME = 'a.ss') AS SNAPSHOT OF shap
+CREATE DATABASE s2 ON (NAME = shop_data, FILENAME = 'a.ss') AS SNAPSHOT OF shap
+CREATE DATABASE s2 ON (NAME = shop_data, FILENAME = 'a.ss') AS SNAPSHOT OF master
+CREATE DATABASE s2 ON (NAME = shop, FILENAME = 's1.ss') AS SNAPSHOT OF s1
+CREATE DATABASE s2 ON (NAME = shop, FILENAME = 's1.ss') AS SNAPSHOT OF shop
+CREATE DATABASE s2 ON (NAME = shop_data, FILENAME = 'a.ss'), (NAME = shop_data, FILENAME = 'b.ss') AS SNAPSHOT OF shop
+CREATE DATABASE s2 ON (NAME = shop_data, FILENAME = 's1.ss') AS SNAPSHOT OF shop
+USE s2
