@@ -159,51 +159,48 @@ const ONE_UPDATE_FRONT: &[u8] =
     b"1 said 1 0 ok\n1 lock * X\n1 said 2 1 ok\n1 lock * S\n1 lock t X\n1 said 3 3 count 1\n1 cut s1\n\
 1 said 4 6 ok\n1 lock * S\n1 lock t X\n";
 
-// The page of `t` is copied at the UPDATE by the first call of the sparse file, and read by the second.
+const TWO_UPDATES: &[u8] =
+    b":session 1\nUSE shop\nCREATE TABLE t (id INT PRIMARY KEY, v INT)\nINSERT t VALUES (1, 10)\n\
+CREATE DATABASE s1 ON (NAME = shop_data, FILENAME = 's1.ss') AS SNAPSHOT OF shop\nUPDATE t SET v = 10\n\
+UPDATE t SET v = 20\n";
+
+// The page of `t` is copied at the UPDATE by the first call of the sparse file, and read by the second. An UPDATE to the
+// values that are there copies nothing.
 #[test]
 fn a_failing_sparse_file_turns_its_snapshot(rt: HostRuntime) -> Result<(), Fail> {
     let cases = [
         (
+            ONE_UPDATE,
             0,
             0,
             b"1 said 5 8 count 1\n1 said 6 11 ok\n1 said 7 12 rows 1\n (1,10)\n1 left\n".as_slice(),
         ),
         (
+            ONE_UPDATE,
             1,
             1,
             b"turned s1\n1 said 5 8 count 1\n1 said 6 12 msg 926\n1 lock * S\n1 lock t S\n1 said 7 13 rows 1\n (1,20)\n1 left\n",
         ),
         (
+            ONE_UPDATE,
             2,
             1,
             b"1 said 5 8 count 1\n1 said 6 11 ok\nturned s1\n1 said 7 12 msg 926\n1 left\n",
         ),
+        (
+            TWO_UPDATES,
+            1,
+            1,
+            b"1 said 5 8 count 1\n1 lock * S\n1 lock t X\nturned s1\n1 said 6 11 count 1\n1 left\n",
+        ),
     ];
-    for (call, faults, rest) in cases {
-        let (ended, written) = failed(rt.alloc(), ONE_UPDATE, [0, 0], call)?;
+    for (script, call, faults, rest) in cases {
+        let (ended, written) = failed(rt.alloc(), script, [0, 0], call)?;
         assert_eq!(rt; ended.status, 0);
         assert_eq!(rt; ended.volume.faults(), 0);
         assert_eq!(rt; ended.volume.file_faults(), faults);
         assert_eq!(rt; written.strip_prefix(ONE_UPDATE_FRONT), Some(rest));
     }
-    Ok(())
-}
-
-// An UPDATE to the values that are there copies nothing, so the failing copy is that of the second UPDATE.
-#[test]
-fn values_that_stay_are_not_copied(rt: HostRuntime) -> Result<(), Fail> {
-    let script =
-        b":session 1\nUSE shop\nCREATE TABLE t (id INT PRIMARY KEY, v INT)\nINSERT t VALUES (1, 10)\n\
-CREATE DATABASE s1 ON (NAME = shop_data, FILENAME = 's1.ss') AS SNAPSHOT OF shop\nUPDATE t SET v = 10\n\
-UPDATE t SET v = 20\n";
-    let rest =
-        b"1 said 5 8 count 1\n1 lock * S\n1 lock t X\nturned s1\n1 said 6 11 count 1\n1 left\n";
-    let (ended, written) = failed(rt.alloc(), script, [0, 0], 1)?;
-    assert_eq!(rt; ended.status, 0);
-    assert_eq!(rt;
-        written.strip_prefix(ONE_UPDATE_FRONT),
-        Some(rest.as_slice())
-    );
     Ok(())
 }
 
