@@ -4,7 +4,7 @@ ghost use Rattle.std.specs.Prelude.{◌≡◌, ◌+◌, ◌<◌, ◌≤◌, ℕ,
 ghost use Rattle.engine_core.specs.Steps.{next_stmt, HasNext, Goes, Steps, Says, AreOthersSame, Moves, HaveLeft};
 ghost use Rattle.engine_core.specs.declared.moved.Moved.TheVariants.{Went, Ended};
 ghost use Rattle.engine_core.specs.Safe.{state, seen_by, seat_at, script_at, is_turn};
-ghost use Rattle.engine_core.specs.Closing.{IsFault};
+ghost use Rattle.engine_core.specs.Closing.{IsFault, Ends};
 ghost use Rattle.plain_model.specs.Legal.{Legal};
 ghost use Rattle.plain_model.specs.Complete.{Complete};
 ghost use Rattle.page_dev.specs.Faults.{Rose};
@@ -15,9 +15,10 @@ ghost use Rattle.engine_core.specs.Deciding.{IsDecision, IsSeeing, IsCut};
 ghost use Rattle.plain_model.specs.State.{committed};
 ghost use Rattle.plain_model.specs.Tables.{Tables};
 ghost use Rattle.plain_model.specs.Sound.{is_sound};
+ghost use Rattle.std.specs.FinMap as finite;
 ghost use Rattle.std.specs.FinSet as finset;
 ghost use Rattle.page_base.specs.Pages.{blank};
-ghost use Rattle.snap_pages.specs.Shown.{img, counts, catalog};
+ghost use Rattle.snap_pages.specs.Shown.{img, counts, count, catalog};
 ghost use Rattle.snap_pages.specs.Catalog.{empty};
 ghost use Rattle.engine_core.specs.Opened.{names_of, new_source};
 ghost use Rattle.engine_core.specs.Disks.{disk_of};
@@ -204,6 +205,7 @@ impl<V: Volume> Engine<V> {
         ensures disk { IfOk result (λ e. e.disk ≡ disk_of V.tells V.folder V.out V.failures V.file_failures volume) }
         ensures seats { IfOk result (λ e. e.seats ≡ replicate (length scripts) (record { current = master; said = 0; gone = false })) }
         ensures book { IfOk result (λ e. e.kept.events ≡ []) }
+        ensures pages { IfOk result (λ e. counts e.shown ≡ pages ∷ []) }
         ensures refused { IfErr result (λ r. r.volume ≡ volume) }
     {
         let Ok(
@@ -439,8 +441,9 @@ impl<V: Volume> Engine<V> {
         let _book = self.book();
     }
 
-    /// Ends the run: each sparse file is put back, in the order of the snapshots, also where one before it failed.
-    /// `Fault` names the first that the volume failed to put back. Takes no memory.
+    /// Ends the run: each sparse file is put back, in the order of the snapshots, also where one before it failed. Every
+    /// name keeps its place. `Fault` names the first file that the volume failed to put back; all before it, and at
+    /// `Done` all files, lie there with their bytes. Takes no memory.
     pub fn close(self) -> Closed<V>
         ensures book { result.book ≡ self.kept.events }
         ensures legal { IsTrue self.disk.told → Legal self.opening self.scripts result.book }
@@ -450,6 +453,8 @@ impl<V: Volume> Engine<V> {
         ensures file_failures { self.disk.file_failures ≤ V.file_failures result.volume }
         ensures fault { IsFault result.end → Rose self.disk.failures (V.failures result.volume) }
         ensures blame { list_any is_turn result.book ≡ true → Rose self.disk.file_failures (V.file_failures result.volume) }
+        ensures ends { Ends self.shown (count self.shown) (disk_of V.tells V.folder V.out V.failures V.file_failures result.volume) result.end }
+        ensures folder { (name : List ℕ) → IsTrue self.disk.told → finite.contains_key (V.folder result.volume) name ≡ finite.contains_key self.disk.folder name }
     {
         let Engine {
             mut volume,
