@@ -3,12 +3,16 @@
 
 mod event;
 mod expr;
+mod kind;
+mod pick;
 mod reply;
 mod scripts;
 mod stmt;
 
 pub use event::{Book, Event, LockName};
 pub use expr::{CompareOp, Expr, InRest, MathOp};
+pub use kind::Kind;
+pub use pick::{Pick, PickList, Until};
 pub use reply::{Carried, Message, Reply};
 pub use scripts::{Scripts, StmtList};
 pub use stmt::{
