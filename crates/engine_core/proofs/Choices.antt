@@ -1,5 +1,5 @@
 -- Decisions by a session's current database.
-use Rattle.std.proofs.Common.{◌≡◌, ℕ, true, false, cond, List, [], length, refl, sym, subst, Result, Ok, Err}
+use Rattle.std.proofs.Common.{◌≡◌, ℕ, Bool, true, false, cond, List, [], length, refl, sym, subst, Result, Ok, Err}
 use Rattle.std.specs.Prelude.{◌==◌, IfOk, MatchResult}
 use Rattle.page_base.specs.declared.column.Column.{Column}
 use Rattle.page_base.specs.declared.failure.NoMemory.{NoMemory}
@@ -27,27 +27,38 @@ use Rattle.engine_core.specs.Deciding.{Setting, IsDecision, Decides}
 use Rattle.engine_core.proofs.PushLemmas.{bytes_same}
 use Rattle.engine_core.proofs.AtOnce.{eq_is, unbuilt_comes, broken_comes, memory_comes, create_refused, insert_refused, update_refused, select_refused, select_lost, use_absent, use_lost, use_comes}
 use Rattle.engine_core.proofs.Coming.{bad_comes}
-use Rattle.engine_core.proofs.Decisions.{msg_tables, decides_only}
+use Rattle.engine_core.proofs.Decisions.{decides_only, refuses_only, other_number, no_failure}
+use Rattle.engine_core.specs.Causes.{IsRoomReply, IsNoFailure}
+use Rattle.plain_model.specs.declared.reply.Carried.TheVariants.{Nothing, Number}
 
 abbrev pub now : Message → Decision
 now m = record { answer = AtOnce (Msg m); edits = [] }
 
+-- what is refused outside the source says nothing of room or of the volume
+outside_room : (v : Shown) (stmt : Stmt) (lost : Bool) → IsRoomReply v stmt (Msg (cond lost (plain 926) (plain 3906)))
+outside_room v stmt true = other_number v stmt 926 Nothing refl
+outside_room v stmt false = other_number v stmt 3906 Nothing refl
+
+outside_fine : (lost : Bool) → IsNoFailure (Msg (cond lost (plain 926) (plain 3906)))
+outside_fine true = no_failure 926 Nothing refl
+outside_fine false = no_failure 3906 Nothing refl
+
 module _ (v : Shown) (db : Database) where
   pub unbuilt : (stmt : Stmt) → is_built stmt ≡ false → IsPlain stmt (Msg (plain 60098)) → Decides v db stmt (now (plain 60098))
   unbuilt stmt b simple opening current seen setting means =
-      decides_only opening opening.source current v seen stmt (AtOnce (Msg (plain 60098))) setting (msg_tables stmt (plain 60098) seen.source) simple (unbuilt_comes opening current seen (catalog v) setting.ordered setting.apart db means stmt b)
+      refuses_only opening opening.source current v seen stmt (AtOnce (Msg (plain 60098))) 60098 Nothing refl refl refl setting simple (unbuilt_comes opening current seen (catalog v) setting.ordered setting.apart db means stmt b)
 
   pub create_outside : (name : List ℕ) (cols : List Column) → is_built (CreateTable name cols) ≡ true → is_home db ≡ false → Decides v db (CreateTable name cols) (now (cond (is_lost (catalog v) db) (plain 926) (plain 3906)))
   create_outside name cols b out opening current seen setting means =
-      decides_only opening opening.source current v seen (CreateTable name cols) (AtOnce (Msg (cond (is_lost (catalog v) db) (plain 926) (plain 3906)))) setting refl tt (create_refused opening current seen (catalog v) setting.ordered setting.apart db means name cols b out)
+      decides_only opening opening.source current v seen (CreateTable name cols) (AtOnce (Msg (cond (is_lost (catalog v) db) (plain 926) (plain 3906)))) setting refl tt (outside_room v (CreateTable name cols) (is_lost (catalog v) db)) (outside_fine (is_lost (catalog v) db)) (create_refused opening current seen (catalog v) setting.ordered setting.apart db means name cols b out)
 
   pub insert_outside : (i : InsertStmt) → is_built (Insert i) ≡ true → is_home db ≡ false → Decides v db (Insert i) (now (cond (is_lost (catalog v) db) (plain 926) (plain 3906)))
   insert_outside i b out opening current seen setting means =
-      decides_only opening opening.source current v seen (Insert i) (AtOnce (Msg (cond (is_lost (catalog v) db) (plain 926) (plain 3906)))) setting refl tt (insert_refused opening current seen (catalog v) setting.ordered setting.apart db means i b out)
+      decides_only opening opening.source current v seen (Insert i) (AtOnce (Msg (cond (is_lost (catalog v) db) (plain 926) (plain 3906)))) setting refl tt (outside_room v (Insert i) (is_lost (catalog v) db)) (outside_fine (is_lost (catalog v) db)) (insert_refused opening current seen (catalog v) setting.ordered setting.apart db means i b out)
 
   pub update_outside : (u : UpdateStmt) → is_built (Update u) ≡ true → is_home db ≡ false → Decides v db (Update u) (now (cond (is_lost (catalog v) db) (plain 926) (plain 3906)))
   update_outside u b out opening current seen setting means =
-      decides_only opening opening.source current v seen (Update u) (AtOnce (Msg (cond (is_lost (catalog v) db) (plain 926) (plain 3906)))) setting refl tt (update_refused opening current seen (catalog v) setting.ordered setting.apart db means u b out)
+      decides_only opening opening.source current v seen (Update u) (AtOnce (Msg (cond (is_lost (catalog v) db) (plain 926) (plain 3906)))) setting refl tt (outside_room v (Update u) (is_lost (catalog v) db)) (outside_fine (is_lost (catalog v) db)) (update_refused opening current seen (catalog v) setting.ordered setting.apart db means u b out)
 
   -- in the source
   module _ (home : is_home db ≡ true) where
@@ -65,11 +76,11 @@ module _ (v : Shown) (db : Database) where
 
     pub bad_definition : (name : List ℕ) (cols : List Column) → is_built (CreateTable name cols) ≡ true → (length cols == 0) ≡ true → Decides v db (CreateTable name cols) (now (plain 60016))
     bad_definition name cols b e = at_home (CreateTable name cols) (now (plain 60016)) (λ opening seen setting.
-        decides_only opening opening.source opening.source v seen (CreateTable name cols) (AtOnce (Msg (plain 60016))) setting refl tt (bad_comes opening opening.source seen _ refl name cols b e))
+        refuses_only opening opening.source opening.source v seen (CreateTable name cols) (AtOnce (Msg (plain 60016))) 60016 Nothing refl refl refl setting tt (bad_comes opening opening.source seen _ refl name cols b e))
 
   no_memory : (stmt : Stmt) → is_of_tables stmt ≡ true → IsPlain stmt (Msg (plain 701)) → (opening : Opening) (seen : Seen) → Setting opening opening.source v seen → IsDecision opening opening.source v seen stmt (now (plain 701))
   no_memory stmt of simple opening seen setting =
-      decides_only opening opening.source opening.source v seen stmt (AtOnce (Msg (plain 701))) setting (msg_tables stmt (plain 701) seen.source) simple (memory_comes opening opening.source seen (catalog v) setting.ordered setting.apart Source (bytes_same opening.source) stmt of refl)
+      refuses_only opening opening.source opening.source v seen stmt (AtOnce (Msg (plain 701))) 701 Nothing refl refl refl setting simple (memory_comes opening opening.source seen (catalog v) setting.ordered setting.apart Source (bytes_same opening.source) stmt of refl)
 
   -- a decision in the source, or 701
   pub or_memory : (stmt : Stmt) → is_of_tables stmt ≡ true → IsPlain stmt (Msg (plain 701)) → is_home db ≡ true → (r : Result Decision NoMemory) (x : Decision) →
@@ -87,19 +98,19 @@ same_decision opening current v seen stmt d e is h = subst (λ (x : Decision). I
 -- USE
 module _ (v : Shown) (opening : Opening) (current : List ℕ) (seen : Seen) (setting : Setting opening opening.source v seen) (name : List ℕ) (db : Database) (means : Means opening.source (catalog v) name db) where
   pub enter_absent : is_there db ≡ false → IsDecision opening current v seen (UseDb name) (now (plain 911))
-  enter_absent e = decides_only opening opening.source current v seen (UseDb name) (AtOnce (Msg (plain 911))) setting refl tt (use_absent opening current seen (catalog v) setting.ordered setting.apart name db means e)
+  enter_absent e = refuses_only opening opening.source current v seen (UseDb name) (AtOnce (Msg (plain 911))) 911 Nothing refl refl refl setting tt (use_absent opening current seen (catalog v) setting.ordered setting.apart name db means e)
 
   pub enter_lost : is_there db ≡ true → is_lost (catalog v) db ≡ true → IsDecision opening current v seen (UseDb name) (now (plain 926))
-  enter_lost e l = decides_only opening opening.source current v seen (UseDb name) (AtOnce (Msg (plain 926))) setting refl tt (use_lost opening current seen (catalog v) setting.ordered setting.apart name db means e l)
+  enter_lost e l = refuses_only opening opening.source current v seen (UseDb name) (AtOnce (Msg (plain 926))) 926 Nothing refl refl refl setting tt (use_lost opening current seen (catalog v) setting.ordered setting.apart name db means e l)
 
   pub enters : is_there db ≡ true → is_lost (catalog v) db ≡ false → IsDecision opening current v seen (UseDb name) (record { answer = AtOnce Fine; edits = [] })
-  enters e l = decides_only opening opening.source current v seen (UseDb name) (AtOnce Fine) setting refl tt (use_comes opening current seen (catalog v) setting.ordered setting.apart name db means e l)
+  enters e l = decides_only opening opening.source current v seen (UseDb name) (AtOnce Fine) setting refl tt tt tt (use_comes opening current seen (catalog v) setting.ordered setting.apart name db means e l)
 
 -- SELECT
 module _ (v : Shown) (db : Database) (s : SelectStmt) (b : is_built (Select s) ≡ true) where
   pub see_lost : is_lost (catalog v) db ≡ true → Decides v db (Select s) (now (plain 926))
   see_lost l opening current seen setting means =
-      decides_only opening opening.source current v seen (Select s) (AtOnce (Msg (plain 926))) setting refl tt
+      refuses_only opening opening.source current v seen (Select s) (AtOnce (Msg (plain 926))) 926 Nothing refl refl refl setting tt
       (select_lost opening current seen (catalog v) setting.ordered setting.apart db means s b (out db l) (shot db l) l)
     where
       out : (d : Database) → is_lost (catalog v) d ≡ true → is_home d ≡ false
@@ -116,12 +127,12 @@ module _ (v : Shown) (db : Database) (s : SelectStmt) (b : is_built (Select s) �
 
   pub see_nowhere : is_home db ≡ false → is_shot db ≡ false → Decides v db (Select s) (now (plain 208))
   see_nowhere h n opening current seen setting means =
-      decides_only opening opening.source current v seen (Select s) (AtOnce (Msg (plain 208))) setting refl tt
+      refuses_only opening opening.source current v seen (Select s) (AtOnce (Msg (plain 208))) 208 Nothing refl refl refl setting tt
       (select_refused opening current seen (catalog v) setting.ordered setting.apart db means s b h n)
 
 pub broken : (v : Shown) (db : Database) (at : ℕ) → Decides v db (Broken at) (record { answer = AtOnce (Msg (at_place 102 at)); edits = [] })
 broken v db at opening current seen setting means =
-    decides_only opening opening.source current v seen (Broken at) (AtOnce (Msg (at_place 102 at))) setting refl tt (broken_comes opening current seen (catalog v) setting.ordered setting.apart db means at)
+    refuses_only opening opening.source current v seen (Broken at) (AtOnce (Msg (at_place 102 at))) 102 (Number at) refl refl refl setting tt (broken_comes opening current seen (catalog v) setting.ordered setting.apart db means at)
 
 -- a statement of no kind that is built
 pub other : (stmt : Stmt) → ((d : List ℕ) → stmt ≡ UseDb d → ⊥) → ((n : List ℕ) (cols : List Column) → stmt ≡ CreateTable n cols → ⊥) → ((i : InsertStmt) → stmt ≡ Insert i → ⊥) → ((s : SelectStmt) → stmt ≡ Select s → ⊥) → ((u : UpdateStmt) → stmt ≡ Update u → ⊥)

@@ -36,9 +36,9 @@ use Rattle.engine_core.specs.Ready.{Seen, Comes, reply_of}
 use Rattle.engine_core.specs.Stepping.{tables_after, current_after, IsPlain}
 use Rattle.engine_core.specs.Seeing.{selected}
 use Rattle.engine_core.specs.Deciding.{AreApart, Setting, IsDecision, IsStill, IsSeeing, IsCut, IsCourse}
-use Rattle.engine_core.specs.Safe.{Run, Disk, state, seen_by, seat_at, no_seat, script_at, AreInts, AreTables, Safe}
+use Rattle.engine_core.specs.Safe.{Run, state, seen_by, seat_at, no_seat, script_at, AreInts, AreTables, Safe}
 use Rattle.engine_core.specs.Doing.{Does}
-use Rattle.engine_core.specs.Steps.{next_stmt, HasNext, Says}
+use Rattle.engine_core.specs.Steps.{next_stmt, HasNext}
 use Rattle.engine_core.proofs.AtOnce.{memory_comes, select_lost, select_comes}
 use Rattle.engine_core.proofs.SeatLemmas.{dues_set}
 use Rattle.engine_core.proofs.SafeLemmas.{safe_statement, same_tables, same_pages}
@@ -142,20 +142,6 @@ module _ (e : Run) (safe : Safe e) (i : ℕ) (next : HasNext e i) where
   pub course_is : (seat : Seat) (stmt : Stmt) (course : Course) → seat ≡ seat_at e i → next_stmt e i ≡ stmt → IsCourse e.opening seat.current e.shown (seen_by (state e)) stmt course → IsCourse e.opening (seat_at e i).current e.shown (seen_by (state e)) (next_stmt e i) course
   course_is seat stmt course seat_is stmt_is h =
       subst (λ (x : Stmt). IsCourse e.opening (seat_at e i).current e.shown (seen_by (state e)) x course) (sym stmt_is) (subst (λ (s : Seat). IsCourse e.opening s.current e.shown (seen_by (state e)) stmt course) seat_is h)
-
-  -- the session alone moved
-  pub says_so : (old : Run) → e ≡ old → (disk : Disk) → disk.told ≡ e.disk.told → e.disk.failures ≤ disk.failures → e.disk.file_failures ≤ disk.file_failures → (v : Shown) (kept : Kept) (seat : Seat) → seat ≡ seat_at e i →
-      Says old (record e { disk = disk; shown = v; seats = set e.seats i (record { current = seat.current; said = seat.said + 1; gone = seat.gone }); kept = kept }) i
-  says_so old is disk told failures file_failures v kept seat seat_is =
-      subst (λ (r : Run). Says r (record e { disk = disk; shown = v; seats = set e.seats i (record { current = seat.current; said = seat.said + 1; gone = seat.gone }); kept = kept }) i) is (record {
-        current = seat.current;
-        steps = record {
-          within = within;
-          goes = record { opening = refl; scripts = refl; told = told; failures = failures; file_failures = file_failures };
-          seats = ap (set e.seats i) (ap (λ (s : Seat). record { current = seat.current; said = s.said + 1; gone = seat.gone }) seat_is
-              ∙ ap (λ (b : Bool). record { current = seat.current; said = (seat_at e i).said + 1; gone = b }) (ap (λ (s : Seat). s.gone) seat_is ∙ here));
-        };
-      })
 
   -- AN ANSWER
 

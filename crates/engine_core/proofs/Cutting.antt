@@ -6,7 +6,7 @@ use Rattle.std.specs.List.{filter_map, range_with_len, list_any}
 use Rattle.std.specs.Str.{bytes_eq}
 use Rattle.std.specs.FinMap as finite
 use Rattle.std.specs.FinSet as finset
-use Rattle.std.proofs.lemmas.Bool.{cases_Bool, ne_eqb}
+use Rattle.std.proofs.lemmas.Bool.{cases_Bool, ne_eqb, eqb-false}
 use Rattle.std.proofs.lemmas.List.Folds.{list_any-append}
 use Rattle.std.proofs.lemmas.List.FromFn.{map-range_with_len_more}
 use Rattle.std.proofs.lemmas.Option.{slice_get_within}
@@ -37,6 +37,7 @@ use Rattle.engine_core.specs.Pushing.{sound, name_of}
 use Rattle.engine_core.specs.Ready.{Allowed}
 use Rattle.engine_core.specs.Stepping.{number, idle, busy, mid, Around}
 use Rattle.engine_core.specs.Safe.{Run, Disk, state, seat_at, script_at, InStep, AreSeated, marks_of, AreInts, AreTables, is_turn, HasRoom, Safe}
+use Rattle.engine_core.specs.Causes.{IsNoShortage, IsVolumeReply}
 use Rattle.engine_core.specs.Creating.{IsAsked, Refuses}
 use Rattle.engine_core.proofs.Stepping.{start_mid, session_mid, after_said, legal_append, end_append}
 use Rattle.engine_core.proofs.SeatLemmas.{seated_next, dues_set}
@@ -349,3 +350,11 @@ refused_safe source file disk0 v0 snap files of e i asked disk kept0 kept who n 
     (refuses.out ∙ ap (λ (d : Disk). d.out) (sym asked.disk_is))
     (λ told. subst (λ (r : Reply). Allowed (state e) (i + 1) (CreateSnap snap files of) r) refuses.is (may (sym told_is ∙ told)))
     (λ told name. subst (λ (d : Disk). (((refuses.code == 60021) ≡ true) × (list_any (bytes_eq name) (next_words.sparse_names files) ≡ true)) ⊎ (finite.contains_key disk.folder name ≡ finite.contains_key d.folder name)) (sym asked.disk_is) (refuses.places (sym told_is ∙ told) name)))
+
+-- a refusal says nothing of room on pages
+pub refused_room : (names : List (List ℕ)) (old new : Disk) (reply : Reply) → Refuses names old new reply → IsNoShortage reply
+refused_room ns old new reply r = subst IsNoShortage (sym r.is) (λ e. eqb-false r.code 1105 r.roomy e)
+
+-- and says only where it is so that the volume failed
+pub refused_volume : (names : List (List ℕ)) (old new : Disk) (reply : Reply) → Refuses names old new reply → IsVolumeReply old.failures new.failures reply
+refused_volume ns old new reply r = subst (IsVolumeReply old.failures new.failures) (sym r.is) (λ e. r.cause (ap (λ n. n == 60021) e))

@@ -7,7 +7,7 @@ use Rattle.std.specs.Cmp.Lexicographic.{slice_cmp, nat_list_cmp_total}
 use Rattle.std.specs.declared.cmp.Ordering.{Ordering}
 use Rattle.std.specs.declared.cmp.Ordering.TheVariants.{Less, Equal, Greater}
 use Rattle.std.proofs.lemmas.List.{length-map}
-use Rattle.std.proofs.lemmas.Bool.{ne_eqb}
+use Rattle.std.proofs.lemmas.Bool.{ne_eqb, eqb-false}
 use Rattle.page_base.specs.declared.numbers.Mode.TheVariants.{S, X}
 use Rattle.plain_model.specs.declared.expr.Expr.{Expr}
 use Rattle.plain_model.specs.declared.stmt.Stmt.TheVariants.{CreateTable, Insert, Select, Update}
@@ -27,18 +27,21 @@ use Rattle.page_base.specs.declared.column.Column.{Column}
 use Rattle.page_base.specs.declared.value.Value.{Value}
 use Rattle.plain_model.specs.declared.stmt.Stmt.{Stmt}
 use Rattle.plain_model.specs.declared.reply.Message.{Message}
+use Rattle.plain_model.specs.declared.reply.Carried.{Carried}
+use Rattle.plain_model.specs.declared.reply.Carried.TheVariants.{Nothing, Number}
 use Rattle.plain_model.specs.declared.reply.Reply.{Reply}
 use Rattle.plain_model.specs.declared.reply.Reply.TheVariants.{Ok, Count, Rows, Msg}
 use Rattle.plain_model.specs.Tables.{Table, Tables, Change, Add, Put, applied, apply, changed, with_row, key_of, rows_of}
 use Rattle.plain_model.specs.Journal.{Opening}
 use Rattle.snap_pages.specs.Shown.{Shown}
-use Rattle.table_pages.specs.Carried.{Carries}
+use Rattle.table_pages.specs.Carried.{Carries, LacksPage}
 use Rattle.engine_core.specs.declared.answer.Answer.{Answer}
 use Rattle.engine_core.specs.declared.decision.Decision.{Decision}
 use Rattle.engine_core.specs.Pushing.{snaps_of}
 use Rattle.engine_core.specs.Ready.{Seen, Comes, reply_of}
 use Rattle.engine_core.specs.Stepping.{tables_after, IsPlain}
 use Rattle.engine_core.specs.Safe.{AreInts}
+use Rattle.engine_core.specs.Causes.{LacksSpace, HasSpace, IsRoomReply, IsNoFailure}
 use Rattle.engine_core.specs.Deciding.{Setting, IsDecision, IsStill}
 
 and_true : (b : Bool) → (b && true) ≡ b
@@ -67,14 +70,30 @@ still_none (UnderTable name mode reply) = tt
 
 -- an answer that edits nothing, and leaves the tables as they are
 pub decides_only : (opening : Opening) (source current : List ℕ) (v : Shown) (seen : Seen) (stmt : Stmt) (answer : Answer) → Setting opening source v seen → tables_after stmt (reply_of answer) seen.source ≡ seen.source →
-    IsPlain stmt (reply_of answer) → Comes opening current seen (snaps_of v) stmt answer → IsDecision opening current v seen stmt (record { answer = answer; edits = [] })
-decides_only opening source current v seen stmt answer setting same simple comes = record {
+    IsPlain stmt (reply_of answer) → IsRoomReply v stmt (reply_of answer) → IsNoFailure (reply_of answer) → Comes opening current seen (snaps_of v) stmt answer → IsDecision opening current v seen stmt (record { answer = answer; edits = [] })
+decides_only opening source current v seen stmt answer setting same simple room fine comes = record {
   comes = comes;
   simple = simple;
   still = still_none answer;
   carries = subst (λ (t : Tables). Carries v [] t) (sym same) setting.none;
   ints = subst AreInts (sym same) setting.ints;
+  room = room;
+  fine = fine;
 }
+
+-- a refusal of another number says nothing of room or of the volume
+pub other_number : (v : Shown) (stmt : Stmt) (n : ℕ) (carried : Carried) → (n == 1105) ≡ false → IsRoomReply v stmt (Msg (record { number = n; carried = carried }))
+other_number v stmt n carried e = λ is. absurd (eqb-false n 1105 e is)
+
+pub no_failure : (n : ℕ) (carried : Carried) → (n == 60021) ≡ false → IsNoFailure (Msg (record { number = n; carried = carried }))
+no_failure n carried e = λ is. eqb-false n 60021 e is
+
+-- a refusal that carries nothing, or a place, of a number that asks for no cause
+pub refuses_only : (opening : Opening) (source current : List ℕ) (v : Shown) (seen : Seen) (stmt : Stmt) (answer : Answer) (n : ℕ) (carried : Carried) → reply_of answer ≡ Msg (record { number = n; carried = carried }) → (n == 1105) ≡ false → (n == 60021) ≡ false →
+    Setting opening source v seen → IsPlain stmt (reply_of answer) → Comes opening current seen (snaps_of v) stmt answer → IsDecision opening current v seen stmt (record { answer = answer; edits = [] })
+refuses_only opening source current v seen stmt answer n carried is r f setting simple comes =
+    decides_only opening source current v seen stmt answer setting (ap (λ (x : Reply). tables_after stmt x seen.source) is) simple
+    (subst (λ (x : Reply). IsRoomReply v stmt x) (sym is) (other_number v stmt n carried r)) (subst IsNoFailure (sym is) (no_failure n carried f)) comes
 
 -- TABLES OF INTS
 
@@ -100,20 +119,22 @@ module _ (opening : Opening) (v : Shown) (seen : Seen) (setting : Setting openin
 
   module _ (name : List ℕ) (cols : List Column) (b : list_all is_int cols ≡ true) (definition : is_definition cols ≡ true) where
     pub create_taken : (t : Table) → finite.get seen.source name ≡ Some t → IsDecision opening opening.source v seen (CreateTable name cols) (record { answer = UnderAll X (Msg (plain 2714)); edits = [] })
-    create_taken t there = decides_only opening opening.source opening.source v seen (CreateTable name cols) (UnderAll X (Msg (plain 2714))) setting refl tt
+    create_taken t there = refuses_only opening opening.source opening.source v seen (CreateTable name cols) (UnderAll X (Msg (plain 2714))) 2714 Nothing refl refl refl setting tt
         (taken_comes opening opening.source seen (snaps_of v) refl name cols b (some_columns cols definition).0 (plain 2714) (ap create_shape there))
 
-    pub create_full : finite.get seen.source name ≡ None → IsDecision opening opening.source v seen (CreateTable name cols) (record { answer = UnderAll X (Msg (plain 1105)); edits = [] })
-    create_full none = decides_only opening opening.source opening.source v seen (CreateTable name cols) (UnderAll X (Msg (plain 1105))) setting refl tt
+    pub create_full : finite.get seen.source name ≡ None → LacksPage v name cols → IsDecision opening opening.source v seen (CreateTable name cols) (record { answer = UnderAll X (Msg (plain 1105)); edits = [] })
+    create_full none lacks = decides_only opening opening.source opening.source v seen (CreateTable name cols) (UnderAll X (Msg (plain 1105))) setting refl tt (λ _. lacks) (no_failure 1105 Nothing refl)
         (full_comes opening opening.source seen (snaps_of v) refl name cols b (some_columns cols definition).0 (ap create_shape none))
 
-    pub create_made : (e : Edit) → finite.get seen.source name ≡ None → Carries v (e ∷ []) (applied (Add name cols) seen.source) → IsDecision opening opening.source v seen (CreateTable name cols) (record { answer = UnderAll X Ok; edits = e ∷ [] })
-    create_made e none plan = record {
+    pub create_made : (e : Edit) → finite.get seen.source name ≡ None → (LacksPage v name cols → ⊥) → Carries v (e ∷ []) (applied (Add name cols) seen.source) → IsDecision opening opening.source v seen (CreateTable name cols) (record { answer = UnderAll X Ok; edits = e ∷ [] })
+    create_made e none room plan = record {
       comes = made_comes opening opening.source seen (snaps_of v) refl name cols b (some_columns cols definition).0 (ap create_shape none);
       simple = tt;
       still = tt;
       carries = plan;
       ints = ints_insert seen.source name (record { cols = cols; rows = finite.empty }) setting.ints b (some_columns cols definition).1;
+      room = room;
+      fine = tt;
     }
 
   -- INSERT OF ONE ROW
@@ -123,7 +144,7 @@ module _ (opening : Opening) (v : Shown) (seen : Seen) (setting : Setting openin
     wide = widths i.rows row (length t.cols) rows
 
     pub insert_narrow : (length row == length t.cols) ≡ false → IsDecision opening opening.source v seen (Insert i) (record { answer = UnderAll S (Msg (plain 60013)); edits = [] })
-    insert_narrow e = decides_only opening opening.source opening.source v seen (Insert i) (UnderAll S (Msg (plain 60013))) setting refl tt
+    insert_narrow e = refuses_only opening opening.source opening.source v seen (Insert i) (UnderAll S (Msg (plain 60013))) 60013 Nothing refl refl refl setting tt
         (shape_comes opening opening.source seen (snaps_of v) refl (Insert i) i.table X (of_insert i b) (plain 60013) (ap (insert_shape i) there ∙ ap (λ c. cond c None (Some (plain 60013))) (wide ∙ e)))
 
     module _ (fits : (length row == length t.cols) ≡ true) where
@@ -137,15 +158,15 @@ module _ (opening : Opening) (v : Shown) (seen : Seen) (setting : Setting openin
           ∙ ap (λ c. insert_data i.table (row ∷ []) (cond c (Some 1) None)) e
 
       pub insert_clash : finite.contains_key t.rows (key_of t.cols row) ≡ true → IsDecision opening opening.source v seen (Insert i) (record { answer = UnderTable i.table X (Msg (at_place 2627 1)); edits = [] })
-      insert_clash e = decides_only opening opening.source opening.source v seen (Insert i) (UnderTable i.table X (Msg (at_place 2627 1))) setting refl tt
+      insert_clash e = refuses_only opening opening.source opening.source v seen (Insert i) (UnderTable i.table X (Msg (at_place 2627 1))) 2627 (Number 1) refl refl refl setting tt
           (reply_comes opening opening.source seen (snaps_of v) refl (Insert i) i.table X (of_insert i b) (Msg (at_place 2627 1)) shaped (ap (λ (r : List Change × Reply). r.1) (meant true e)))
 
-      pub insert_full : finite.contains_key t.rows (key_of t.cols row) ≡ false → IsDecision opening opening.source v seen (Insert i) (record { answer = UnderTable i.table X (Msg (plain 1105)); edits = [] })
-      insert_full e = decides_only opening opening.source opening.source v seen (Insert i) (UnderTable i.table X (Msg (plain 1105))) setting refl tt
+      pub insert_full : finite.contains_key t.rows (key_of t.cols row) ≡ false → LacksSpace v i → IsDecision opening opening.source v seen (Insert i) (record { answer = UnderTable i.table X (Msg (plain 1105)); edits = [] })
+      insert_full e lacks = decides_only opening opening.source opening.source v seen (Insert i) (UnderTable i.table X (Msg (plain 1105))) setting refl tt (λ _. lacks) (no_failure 1105 Nothing refl)
           (room_comes opening opening.source seen (snaps_of v) refl (Insert i) i.table X (of_insert i b) (Count 1) shaped refl refl (ap (λ (r : List Change × Reply). r.1) (meant false e)))
 
-      pub insert_made : (edit : Edit) → finite.contains_key t.rows (key_of t.cols row) ≡ false → Carries v (edit ∷ []) (applied (Put i.table row) seen.source) → IsDecision opening opening.source v seen (Insert i) (record { answer = UnderTable i.table X (Count 1); edits = edit ∷ [] })
-      insert_made edit e plan =
+      pub insert_made : (edit : Edit) → finite.contains_key t.rows (key_of t.cols row) ≡ false → HasSpace v i → Carries v (edit ∷ []) (applied (Put i.table row) seen.source) → IsDecision opening opening.source v seen (Insert i) (record { answer = UnderTable i.table X (Count 1); edits = edit ∷ [] })
+      insert_made edit e space plan =
           let changes : tables_after (Insert i) (Count 1) seen.source ≡ applied (Put i.table row) seen.source = ap (λ (r : List Change × Reply). apply r.0 seen.source) (meant false e) in
           let mine = setting.ints i.table t there in
           record {
@@ -154,22 +175,24 @@ module _ (opening : Opening) (v : Shown) (seen : Seen) (setting : Setting openin
             still = tt;
             carries = subst (λ (u : Tables). Carries v (edit ∷ []) u) (sym changes) plan;
             ints = subst AreInts (sym (changes ∙ ap (λ o. changed seen.source i.table o (with_row row)) there)) (ints_insert seen.source i.table (with_row row t) setting.ints mine.0 mine.1);
+            room = space;
+            fine = tt;
           }
 
   -- SELECT OF WHOLE ROWS
 
   module _ (s : SelectStmt) (b : is_built (Select s) ≡ true) where
     pub select_none : finite.get seen.source s.table ≡ None → IsDecision opening opening.source v seen (Select s) (record { answer = UnderAll S (Msg (plain 208)); edits = [] })
-    select_none none = decides_only opening opening.source opening.source v seen (Select s) (UnderAll S (Msg (plain 208))) setting refl tt
+    select_none none = refuses_only opening opening.source opening.source v seen (Select s) (UnderAll S (Msg (plain 208))) 208 Nothing refl refl refl setting tt
         (shape_comes opening opening.source seen (snaps_of v) refl (Select s) s.table S (of_select s b) (plain 208) (ap select_shape none))
 
     pub select_rows : (t : Table) → finite.get seen.source s.table ≡ Some t → IsDecision opening opening.source v seen (Select s) (record { answer = UnderTable s.table S (Rows (shown_rows (rows_of t))); edits = [] })
-    select_rows t there = decides_only opening opening.source opening.source v seen (Select s) (UnderTable s.table S (Rows (shown_rows (rows_of t)))) setting refl tt
+    select_rows t there = decides_only opening opening.source opening.source v seen (Select s) (UnderTable s.table S (Rows (shown_rows (rows_of t)))) setting refl tt tt tt
         (reply_comes opening opening.source seen (snaps_of v) refl (Select s) s.table S (of_select s b) (Rows (shown_rows (rows_of t))) (ap select_shape there) (ap (λ o. Rows (shown_rows (rows_of (unwrap_or o (record { cols = []; rows = finite.empty }))))) there))
 
   -- INSERT into no table
   pub insert_none : (i : InsertStmt) → is_built (Insert i) ≡ true → finite.get seen.source i.table ≡ None → IsDecision opening opening.source v seen (Insert i) (record { answer = UnderAll S (Msg (plain 208)); edits = [] })
-  insert_none i b none = decides_only opening opening.source opening.source v seen (Insert i) (UnderAll S (Msg (plain 208))) setting refl tt
+  insert_none i b none = refuses_only opening opening.source opening.source v seen (Insert i) (UnderAll S (Msg (plain 208))) 208 Nothing refl refl refl setting tt
       (shape_comes opening opening.source seen (snaps_of v) refl (Insert i) i.table X (of_insert i b) (plain 208) (ap (insert_shape i) none))
 
 -- the same decision
@@ -191,17 +214,17 @@ ints_puts name (row ∷ rows) tables ints = ints_puts name rows (applied (Put na
 
 module _ (opening : Opening) (v : Shown) (seen : Seen) (setting : Setting opening opening.source v seen) (u : UpdateStmt) (b : is_built (Update u) ≡ true) where
   pub update_none : finite.get seen.source u.table ≡ None → IsDecision opening opening.source v seen (Update u) (record { answer = UnderAll S (Msg (plain 208)); edits = [] })
-  update_none none = decides_only opening opening.source opening.source v seen (Update u) (UnderAll S (Msg (plain 208))) setting refl tt
+  update_none none = refuses_only opening opening.source opening.source v seen (Update u) (UnderAll S (Msg (plain 208))) 208 Nothing refl refl refl setting tt
       (shape_comes opening opening.source seen (snaps_of v) refl (Update u) u.table X (of_update u b) (plain 208) (ap (update_shape u) none))
 
   module _ (t : Table) (there : finite.get seen.source u.table ≡ Some t) where
     pub update_missing : list_all (λ i. has_column t.cols i.col) u.sets ≡ false → IsDecision opening opening.source v seen (Update u) (record { answer = UnderAll S (Msg (plain 207)); edits = [] })
-    update_missing e = decides_only opening opening.source opening.source v seen (Update u) (UnderAll S (Msg (plain 207))) setting refl tt
+    update_missing e = refuses_only opening opening.source opening.source v seen (Update u) (UnderAll S (Msg (plain 207))) 207 Nothing refl refl refl setting tt
         (shape_comes opening opening.source seen (snaps_of v) refl (Update u) u.table X (of_update u b) (plain 207) (ap (update_shape u) there ∙ (rw e refl)))
 
     module _ (all : list_all (λ i. has_column t.cols i.col) u.sets ≡ true) where
       pub update_key : list_any (λ i. is_key_column t.cols i.col) u.sets ≡ true → IsDecision opening opening.source v seen (Update u) (record { answer = UnderAll S (Msg (plain 60012)); edits = [] })
-      update_key e = decides_only opening opening.source opening.source v seen (Update u) (UnderAll S (Msg (plain 60012))) setting refl tt
+      update_key e = refuses_only opening opening.source opening.source v seen (Update u) (UnderAll S (Msg (plain 60012))) 60012 Nothing refl refl refl setting tt
           (shape_comes opening opening.source seen (snaps_of v) refl (Update u) u.table X (of_update u b) (plain 60012) (ap (update_shape u) there ∙ (rw (all, e) refl)))
 
       pub update_made : (edits : List Edit) (count : ℕ) → list_any (λ i. is_key_column t.cols i.col) u.sets ≡ false → count ≡ length (rows_of t) → Carries v edits (apply (map (Put u.table) (updated_rows u.sets t)) seen.source) →
@@ -218,6 +241,8 @@ module _ (opening : Opening) (v : Shown) (seen : Seen) (setting : Setting openin
             still = tt;
             carries = subst (λ (x : Tables). Carries v edits x) (sym changes) plan;
             ints = subst AreInts (sym changes) (ints_puts u.table (updated_rows u.sets t) seen.source setting.ints);
+            room = tt;
+            fine = tt;
           }
 
 -- one set of a number

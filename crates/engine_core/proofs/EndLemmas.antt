@@ -1,9 +1,10 @@
 -- Where all sessions have left, all that they had to say is told.
-use Rattle.std.proofs.Common.{◌≡◌, ◌<◌, ◌≤◌, ℕ, Bool, true, cond, List, [], ◌∷◌, ◌++◌, length, map, get_or, ap, ◌∙◌, arith}
+use Rattle.std.proofs.Common.{◌≡◌, ◌<◌, ◌≤◌, ℕ, Bool, true, cond, List, [], ◌∷◌, ◌++◌, length, map, get_or, ap, ◌∙◌, arith, append_assoc, append-nil, refl, sym}
 use Rattle.std.proofs.lemmas.List.{get_or-set_same, get_or-set_other}
 use Rattle.std.proofs.lemmas.List.Sums.{get_or-le-sum_by}
 use Rattle.std.specs.List.{range_with_len}
 use Rattle.plain_model.specs.declared.stmt.Stmt.{Stmt}
+use Rattle.plain_model.specs.declared.event.Event.{Event}
 use Rattle.plain_model.specs.Sound.{AreScripts}
 use Rattle.plain_model.specs.Complete.{Answered, Gone, Complete}
 use Rattle.engine_core.specs.declared.seat.Seat.{Seat}
@@ -27,11 +28,16 @@ seat_now old new i seat steps = ap (λ (ss : List Seat). get_or ss i no_seat) st
 pub seats_stay : (old new : Run) (i : ℕ) (seat : Seat) → Steps old new i seat → AreOthersSame old new i
 seats_stay old new i seat steps j ne = ap (λ (ss : List Seat). get_or ss j no_seat) steps.seats ∙ get_or-set_other old.seats i j seat no_seat ne
 
+pub goes_still : (e : Run) → Goes e e
+goes_still e = record { opening = refl; scripts = refl; told = refl; came = []; grows = sym (append-nil e.kept.events); failures = omega arith; file_failures = omega arith }
+
 pub goes_on : (a b c : Run) → Goes a b → Goes b c → Goes a c
 goes_on a b c x y = record {
   opening = y.opening ∙ x.opening;
   scripts = y.scripts ∙ x.scripts;
   told = y.told ∙ x.told;
+  came = x.came ++ y.came;
+  grows = y.grows ∙ ap (λ (es : List Event). es ++ y.came) x.grows ∙ append_assoc a.kept.events x.came y.came;
   failures = let f = x.failures in let g = y.failures in omega (arith, f, g);
   file_failures = let f = x.file_failures in let g = y.file_failures in omega (arith, f, g);
 }

@@ -14,9 +14,11 @@ mod FreshLemmas
 mod Doubts
 mod CutLemmas
 mod CourseLemmas
+mod SayingLemmas
 mod LeaveLemmas
 mod Cutting
 mod CutSafe
 mod NameLemmas
 mod CloseLemmas
 mod EndLemmas
+mod OrderLemmas

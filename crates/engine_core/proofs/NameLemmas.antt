@@ -162,6 +162,7 @@ refused_back path old mid new reply told fresh made out unused later file_later 
         | inl seven ↦ absurd (let z : false ≡ true = sym (ap (λ n. n == 60021) seven) ∙ y in cc)
         | inr f ↦ later_rose old.failures mid.failures new.failures later f.1
       ];
+      roomy = elim back.either [ inl seven ↦ ap (λ n. n == 1105) seven | inr f ↦ ap (λ n. n == 1105) f.0 ];
       failures = let a = back.failures in omega (arith, a, later);
       file_failures = let a = back.file_failures in omega (arith, a, file_later);
     }
@@ -180,6 +181,7 @@ refused_failed path old mid new reply is told told' opens others out out' rose l
   ];
   out = out' ∙ out;
   cause = λ y. rose_later old.failures mid.failures new.failures rose later';
+  roomy = refl;
   failures = omega (arith, later, later');
   file_failures = omega (arith, file_later, file_later');
 }
@@ -193,6 +195,7 @@ refuses_none names old new reply r = record {
   places = λ t name. elim (r.places t name) [ inl p ↦ absurd (let x : false ≡ true = p.1 in cc) | inr same ↦ inr same ];
   out = r.out;
   cause = r.cause;
+  roomy = r.roomy;
   failures = r.failures;
   file_failures = r.file_failures;
 }
@@ -207,6 +210,7 @@ module _ (old mid : Disk) (told : mid.told ≡ old.told) (folder : IsTrue old.to
     places = λ t name. elim (r.places (told ∙ t) name) [ inl p ↦ inl p | inr same ↦ inr (same ∙ ap (λ m. finite.contains_key m name) (folder t)) ];
     out = r.out ∙ out;
     cause = λ y. later_rose old.failures mid.failures new.failures later (r.cause y);
+    roomy = r.roomy;
     failures = let a = r.failures in omega (arith, a, later);
     file_failures = let a = r.file_failures in omega (arith, a, file_later);
   }

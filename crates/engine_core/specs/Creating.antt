@@ -18,6 +18,8 @@ use Rattle.snap_pages.specs.Shown.{Shown, count, catalog}
 use Rattle.engine_core.specs.Ready.{Allowed}
 use Rattle.engine_core.specs.Safe.{Run, Disk, Safe, state, seat_at, script_at}
 use Rattle.engine_core.specs.Stepping.{number}
+use Rattle.engine_core.specs.Entering.{Kept}
+use Rattle.engine_core.specs.Causes.{IsNoShortage, IsVolumeReply}
 
 -- the statement is the next one of session i + 1, over this volume and these pages, whose source has one data file
 pub record IsAsked (source file : List ℕ) (disk : Disk) (v : Shown) (stmt : Stmt) (e : Run) (i : ℕ) : Type 0 where
@@ -55,6 +57,8 @@ pub record Refuses (names : List (List ℕ)) (old new : Disk) (reply : Reply) : 
   pub places : IsTrue old.told → (name : List ℕ) → (((code == 60021) ≡ true) × (list_any (bytes_eq name) names ≡ true)) ⊎ (finite.contains_key new.folder name ≡ finite.contains_key old.folder name)
   pub out : new.out ≡ old.out
   pub cause : (code == 60021) ≡ true → Rose old.failures new.failures
+  -- it never says that there is no room on pages
+  pub roomy : (code == 1105) ≡ false
   pub failures : old.failures ≤ new.failures
   pub file_failures : old.file_failures ≤ new.file_failures
 
@@ -101,7 +105,12 @@ with_snap v name files set = record { snaps = (catalog v).snaps ++ new_snap v na
 abbrev pub cut_events : ℕ → ℕ → ℕ → List ℕ → List Event
 cut_events k n began snap = CutAt (number k) snap ∷ Said (number k) n began Ok ∷ []
 
--- the reply says that the volume, or a file, failed
-abbrev pub is_failure : Event → Bool
-is_failure (Said who n began (Msg m)) = m.number == 60021
-is_failure event = false
+-- The events of CREATE DATABASE as statement n of session k: its reply, which says only where it is so that the volume
+-- failed, and before it the cut where one was made.
+pub record Adds (k n : ℕ) (disk disk' : Disk) (kept kept' : Kept) : Type 0 where
+  pub reply : Reply
+  pub amid : List Event
+  pub grows : kept'.events ≡ kept.events ++ (amid ++ Said (number k) n (length kept.events) reply ∷ [])
+  pub cuts : (amid ≡ []) ⊎ ((snap : List ℕ) × (amid ≡ CutAt (number k) snap ∷ []))
+  pub room : IsNoShortage reply
+  pub volume : IsVolumeReply disk.failures disk'.failures reply

@@ -23,6 +23,7 @@ use Rattle.engine_core.specs.Pushing.{is_suspect, snaps_of}
 use Rattle.engine_core.specs.Ready.{Seen, Comes, reply_of}
 use Rattle.engine_core.specs.Stepping.{tables_after, IsPlain}
 use Rattle.engine_core.specs.Safe.{AreInts}
+use Rattle.engine_core.specs.Causes.{IsRoomReply, IsNoFailure}
 
 -- no snapshot has the name of the source or of `master`
 abbrev pub AreApart : List ℕ → Catalog → Type 0
@@ -41,13 +42,15 @@ abbrev pub IsStill : Answer → List Edit → Type 0
 IsStill (AtOnce reply) edits = edits ≡ []
 IsStill answer edits = Unit {0}
 
--- the answer is what comes of the statement, and the edits carry the tables to what the answer makes of them
+-- the answer is what comes of the statement, with its cause, and the edits carry the tables to what the answer makes of them
 pub record IsDecision (opening : Opening) (current : List ℕ) (v : Shown) (seen : Seen) (stmt : Stmt) (d : Decision) : Type 0 where
   pub comes : Comes opening current seen (snaps_of v) stmt d.answer
   pub simple : IsPlain stmt (reply_of d.answer)
   pub still : IsStill d.answer d.edits
   pub carries : Carries v d.edits (tables_after stmt (reply_of d.answer) seen.source)
   pub ints : AreInts (tables_after stmt (reply_of d.answer) seen.source)
+  pub room : IsRoomReply v stmt (reply_of d.answer)
+  pub fine : IsNoFailure (reply_of d.answer)
 
 -- so it is for every session whose current database this is
 abbrev pub Decides : Shown → Database → Stmt → Decision → Type 0

@@ -6,9 +6,11 @@ pub mod Safe
 pub mod Doing
 pub mod Databases
 pub mod Seeing
+pub mod Causes
 pub mod Deciding
 pub mod Disks
 pub mod Opened
 pub mod Creating
 pub mod Steps
+pub mod Schedules
 pub mod Closing

@@ -20,8 +20,8 @@ ghost use Rattle.engine_core.specs.Disks.{disk_of};
 ghost use Rattle.engine_core.specs.Entering.{entered};
 ghost use Rattle.engine_core.specs.Pushing.{sound};
 ghost use Rattle.engine_core.specs.Ready.{Allowed};
-ghost use Rattle.engine_core.specs.Safe.{Run, Disk, Safe, state, seat_at, script_at, sparse_names, is_turn};
-ghost use Rattle.engine_core.specs.Creating.{IsAsked, MayAnswer, has_no_place, Reason, Refuses, GivesBack, Makes, IsNew, with_snap, cut_events, is_failure};
+ghost use Rattle.engine_core.specs.Safe.{Run, Disk, Safe, state, seat_at, script_at, sparse_names};
+ghost use Rattle.engine_core.specs.Creating.{IsAsked, MayAnswer, has_no_place, Reason, Refuses, GivesBack, Makes, IsNew, with_snap, cut_events, Adds};
 
 use crate::Ledger;
 use crate::answering::enter_reply;
@@ -328,8 +328,7 @@ pub(crate) fn create_snapshot<V: Volume>(
     ensures later { V.failures volume.old ≤ V.failures volume.new }
     ensures file_later { V.file_failures volume.old ≤ V.file_failures volume.new }
     ensures tells { V.tells volume.new ≡ V.tells volume.old }
-    ensures cause { list_any is_failure (drop (length ledger.old.events) ledger.new.events) ≡ true → Rose (V.failures volume.old) (V.failures volume.new) }
-    ensures quiet { list_any is_turn (drop (length ledger.old.events) ledger.new.events) ≡ false }
+    ensures adds { Adds who.0 number (disk_of V.tells V.folder V.out V.failures V.file_failures volume.old) (disk_of V.tells V.folder V.out V.failures V.file_failures volume.new) ledger.old ledger.new }
 {
     match prepare(alloc, volume, pages, source, file, snap, files, of) {
         Ok(new) => cut(pages, ledger, who, number, snap, new),

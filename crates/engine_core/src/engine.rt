@@ -1,7 +1,10 @@
 //! The engine: a source in pages, its snapshots, its sessions, and the history of what they did.
 
-ghost use Rattle.std.specs.Prelude.{◌≡◌, ◌+◌, ◌<◌, ◌≤◌, ℕ, List, [], true, false, ◌∷◌, ◌*◌, length, sum_by, replicate, IfOk, IfErr, slice_index_or, slice_get, Some, IsTrue, ◌-◌, ◌↔◌};
-ghost use Rattle.engine_core.specs.Steps.{next_stmt, HasNext, Goes, Steps, Says, AreOthersSame, Moves, HaveLeft};
+ghost use Rattle.std.specs.Prelude.{All, ◌≡◌, ◌+◌, ◌<◌, ◌≤◌, ℕ, List, [], true, false, ◌∷◌, ◌*◌, length, sum_by, replicate, IfOk, IfErr, slice_index_or, slice_get, Some, IsTrue, ◌-◌, ◌↔◌};
+ghost use Rattle.engine_core.specs.Steps.{next_stmt, HasNext, Goes, Says, Leaves, AreOthersSame, Moves, HaveLeft};
+ghost use Rattle.engine_core.specs.Schedules.{Takes, Plays, Rounds, due_order};
+ghost use Rattle.plain_model.specs.declared.pick.Pick.{Pick};
+ghost use Rattle.plain_model.specs.Order.{closers, order, steps};
 ghost use Rattle.engine_core.specs.declared.moved.Moved.TheVariants.{Went, Ended};
 ghost use Rattle.engine_core.specs.Safe.{state, seen_by, seat_at, script_at, is_turn};
 ghost use Rattle.engine_core.specs.Closing.{IsFault, Ends};
@@ -36,7 +39,7 @@ use crate::seeing::select_in;
 use crate::{Ledger, Seat};
 use page_base::{Name, NoMemory, SessNo, SnapNo};
 use page_dev::{PageFile, Volume};
-use plain_model::{Book, Event, Scripts, Stmt};
+use plain_model::{Book, Event, Pick, Scripts, Stmt};
 use snap_pages::SnapPages;
 use std::alloc::Global;
 use std::marker::Model;
@@ -206,6 +209,7 @@ impl<V: Volume> Engine<V> {
         ensures seats { IfOk result (λ e. e.seats ≡ replicate (length scripts) (record { current = master; said = 0; gone = false })) }
         ensures book { IfOk result (λ e. e.kept.events ≡ []) }
         ensures pages { IfOk result (λ e. counts e.shown ≡ pages ∷ []) }
+        ensures order { IfOk result (λ e. (picks : List Pick) → due_order e picks ≡ order (steps scripts) picks) }
         ensures refused { IfErr result (λ r. r.volume ≡ volume) }
     {
         let Ok(
@@ -321,7 +325,7 @@ impl<V: Volume> Engine<V> {
         requires there { place < length self.old.scripts }
         requires here { (seat_at self.old place).gone ≡ false }
         requires all { (seat_at self.old place).said ≡ length (script_at self.old place) }
-        ensures { Steps self.old self.new place (record { current = master; said = (seat_at self.old place).said; gone = true }) }
+        ensures { Leaves self.old self.new place }
     {
         let said = self.seats[place].said;
         let who = SessNo(place as u8 + 1);
@@ -350,12 +354,15 @@ impl<V: Volume> Engine<V> {
 }
 
 impl<V: Volume> Engine<V> {
-    // A session answers all statements that it has left.
+    // A session answers all statements that it has left; all below it have left.
     fn answer_all(&mut self, alloc: Global, place: usize)
         requires there { place < length self.old.scripts }
+        requires before { (j : ℕ) → j < place → (seat_at self.old j).gone ≡ true }
         ensures goes { Goes self.old self.new }
         ensures all { (seat_at self.new place).said ≡ length (script_at self.new place) }
         ensures others { AreOthersSame self.old self.new place }
+        ensures rounds { Rounds self.old self.new }
+        ensures order { due_order self.new [] ≡ due_order self.old [] }
     {
         let said = self.seats[place].said;
         let all = self.scripts.at(place).len() as u32;
@@ -364,17 +371,34 @@ impl<V: Volume> Engine<V> {
         }
     }
 
-    // A session answers all statements that it has left, and leaves.
-    fn end_session(&mut self, alloc: Global, place: usize)
+    // A session that has answered all its statements leaves, unless it has left; all below it have left.
+    fn leave_last(&mut self, place: usize)
         requires there { place < length self.old.scripts }
+        requires before { (j : ℕ) → j < place → (seat_at self.old j).gone ≡ true }
+        requires all { (seat_at self.old place).said ≡ length (script_at self.old place) }
         ensures goes { Goes self.old self.new }
         ensures gone { (seat_at self.new place).gone ≡ true }
         ensures others { AreOthersSame self.old self.new place }
+        ensures rounds { Rounds self.old self.new }
+        ensures order { due_order self.new [] ≡ due_order self.old [] }
     {
-        self.answer_all(alloc, place);
         if !self.seats[place].gone {
             self.leave(place);
         }
+    }
+
+    // A session answers all statements that it has left, and leaves; all below it have left.
+    fn end_session(&mut self, alloc: Global, place: usize)
+        requires there { place < length self.old.scripts }
+        requires before { (j : ℕ) → j < place → (seat_at self.old j).gone ≡ true }
+        ensures goes { Goes self.old self.new }
+        ensures gone { (seat_at self.new place).gone ≡ true }
+        ensures others { AreOthersSame self.old self.new place }
+        ensures rounds { Rounds self.old self.new }
+        ensures order { due_order self.new [] ≡ due_order self.old [] }
+    {
+        self.answer_all(alloc, place);
+        self.leave_last(place);
     }
 
     // Whether all sessions have left.
@@ -410,10 +434,8 @@ impl<V: Volume> Engine<V> {
     pub fn step(&mut self, alloc: Global, who: u8) -> Moved
         requires { who ≤ length self.old.scripts }
         ensures goes { Goes self.old self.new }
+        ensures takes { Takes self.old self.new who }
         ensures ended { 1 ≤ who → (result ≡ Ended ↔ ((seat_at self.old (who - 1)).gone ≡ true)) }
-        ensures still { result ≡ Ended → self.new ≡ self.old }
-        ensures went { 1 ≤ who → result ≡ Went → Moves self.old self.new (who - 1) }
-        ensures idle { who ≡ 0 → self.new ≡ self.old }
         ensures done { who ≡ 0 → (result ≡ Ended ↔ HaveLeft self.old) }
     {
         if who > 0 {
@@ -426,13 +448,25 @@ impl<V: Volume> Engine<V> {
         }
     }
 
-    /// All statements that are left are answered and all sessions leave, the first session's first.
+    /// Plays a schedule: each entry is one step of its session, however far it is meant to go, since a step is a whole
+    /// statement or the leaving; an entry of a session that has left, or of number 0, changes nothing.
+    pub fn run(&mut self, alloc: Global, picks: &[Pick])
+        requires { All (λ (pick : Pick). pick.who ≤ length self.old.scripts) picks.now }
+        ensures goes { Goes self.old self.new }
+        ensures plays { Plays picks.now self.old self.new }
+        ensures order { due_order self.new [] ≡ due_order self.old picks.now }
+    {
+        for pick in picks {
+            let _moved = self.step(alloc, pick.who);
+        }
+    }
+
+    /// The lowest session that hasn't left takes its next step, again and again, until all have left.
     pub fn finish(&mut self, alloc: Global)
-        ensures opening { self.new.opening ≡ self.old.opening }
-        ensures scripts { self.new.scripts ≡ self.old.scripts }
-        ensures told { self.new.disk.told ≡ self.old.disk.told }
-        ensures failures { self.old.disk.failures ≤ self.new.disk.failures }
-        ensures file_failures { self.old.disk.file_failures ≤ self.new.disk.file_failures }
+        ensures goes { Goes self.old self.new }
+        ensures rounds { Rounds self.old self.new }
+        ensures left { HaveLeft self.new }
+        ensures order { closers self.new.kept.events ≡ due_order self.old [] }
         ensures complete { Complete self.new.scripts self.new.kept.events }
     {
         for place in 0..self.scripts.len() {

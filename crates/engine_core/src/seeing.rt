@@ -14,6 +14,7 @@ ghost use Rattle.table_pages.specs.Carried.{data_pages, Holds};
 ghost use Rattle.engine_core.specs.Pushing.{Pushes, Turns, sound};
 ghost use Rattle.engine_core.specs.Safe.{AreTables};
 ghost use Rattle.engine_core.specs.Seeing.{Shows, selected};
+ghost use Rattle.engine_core.specs.Causes.{IsNoShortage, IsNoFailure};
 ghost use Rattle.engine_core.specs.declared.seeing.Glance.TheVariants.{Lost};
 
 use crate::Ledger;
@@ -141,7 +142,9 @@ fn look_for<P: PageFile>(
 // The rows of the table that was found.
 fn shown(alloc: Global, image: &Image) -> Result<Reply, NoMemory>
     requires { IsPage image.now }
-    ensures { IfOk result (λ reply. (held : List ℕ) (t : Table) → Holds image.now held t → reply ≡ Rows (shown_rows (rows_of t))) }
+    ensures reply { IfOk result (λ reply. (held : List ℕ) (t : Table) → Holds image.now held t → reply ≡ Rows (shown_rows (rows_of t))) }
+    ensures room { IfOk result IsNoShortage }
+    ensures volume { IfOk result IsNoFailure }
 {
     let table = read_table(alloc, image)?;
     Ok(Reply::Rows(table.shown_rows(alloc)?))
@@ -150,7 +153,9 @@ fn shown(alloc: Global, image: &Image) -> Result<Reply, NoMemory>
 // The reply of a SELECT that found the table, or 701.
 fn shown_or_none(alloc: Global, image: &Image) -> Reply
     requires { IsPage image.now }
-    ensures { (result ≡ Msg (plain 701)) ⊎ ((held : List ℕ) (t : Table) → Holds image.now held t → result ≡ Rows (shown_rows (rows_of t))) }
+    ensures reply { (result ≡ Msg (plain 701)) ⊎ ((held : List ℕ) (t : Table) → Holds image.now held t → result ≡ Rows (shown_rows (rows_of t))) }
+    ensures room { IsNoShortage result }
+    ensures volume { IsNoFailure result }
 {
     match shown(alloc, image) {
         Ok(reply) => reply,
@@ -176,6 +181,8 @@ fn search<P: PageFile>(
     ensures lost { state_of pages.new s ≡ Suspect → result ≡ Msg (plain 926) }
     ensures reply { IsKept pages.new s → (tables : Tables) → AreTables (data_pages pages.new) (view pages.new s) tables →
         (result ≡ Msg (plain 701)) ⊎ (result ≡ selected name.now tables) }
+    ensures room { IsNoShortage result }
+    ensures volume { IsNoFailure result }
 {
     for i in 0..data_pages(pages) {
         match look_for(pages, ledger, s, i, name, image) {
@@ -208,6 +215,8 @@ pub(crate) fn select_in<P: PageFile>(
     ensures lost { state_of pages.new s ≡ Suspect → result ≡ Msg (plain 926) }
     ensures reply { IsKept pages.new s → (tables : Tables) → AreTables (data_pages pages.new) (view pages.new s) tables →
         (result ≡ Msg (plain 701)) ⊎ (result ≡ selected name.now tables) }
+    ensures room { IsNoShortage result }
+    ensures volume { IsNoFailure result }
 {
     match Image::blank(alloc) {
         Ok(mut image) => search(alloc, pages, ledger, s, name, &mut image),

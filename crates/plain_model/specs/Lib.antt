@@ -11,3 +11,4 @@ pub mod Free
 pub mod Legal
 pub mod Complete
 pub mod Printed
+pub mod Order

@@ -1,8 +1,13 @@
-use Rattle.std.proofs.Common.{arith}
+use Rattle.std.proofs.Common.{◌∷◌, [], ap, inl, inr, refl, arith}
 use Rattle.plain_model.specs.declared.stmt.Stmt.TheVariants.{CreateSnap}
 use Rattle.engine_core.specs.Creating.{IsAsked}
+use Rattle.plain_model.specs.declared.event.Event.TheVariants.{CutAt}
+use Rattle.plain_model.specs.declared.reply.Reply.TheVariants.{Ok as Fine}
+use Rattle.engine_core.specs.Entering.{Kept}
+use Rattle.engine_core.specs.Stepping.{number}
 use Rattle.engine_core.specs.Disks.{disk_of}
 use Rattle.engine_core.proofs.CutSafe.{cut_safe}
+use Rattle.engine_core.proofs.Cutting.{refused_volume, refused_room}
 use Rattle.engine_core.proofs.Cutting.{refused_safe}
 use Rattle.engine_core.proofs.creating.create_snapshot.Goals as goal
 
@@ -24,3 +29,23 @@ returns-in-Err-clause-safe g c = λ e i safe there here says disk_is shown_is ke
     refused_safe c.args.source.now c.args.file.now (disk c.args.volume.now) c.args.pages.now c.args.snap.now c.args.files.now c.args.of.now e i asked
     (disk c.prepare.new.volume) c.args.ledger.now c.refuse.new.ledger c.args.who c.args.number c.in-Err.reply kept_is who_is number_is
     c.in-Err.ensures.refuses c.refuse.ensures (omega (arith, room)) (λ told. c.in-Err.ensures.refused e i asked told)
+
+pub returns-in-Ok-clause-adds : goal.returns-in-Ok-clause-adds
+returns-in-Ok-clause-adds g c = record {
+  reply = Fine;
+  amid = CutAt (number c.args.who.0) c.args.snap.now ∷ [];
+  grows = c.cut.ensures.events;
+  cuts = inr (c.args.snap.now, refl);
+  room = tt;
+  volume = tt;
+}
+
+pub returns-in-Err-clause-adds : goal.returns-in-Err-clause-adds
+returns-in-Err-clause-adds g c = record {
+  reply = c.in-Err.reply;
+  amid = [];
+  grows = ap (λ (k : Kept). k.events) c.refuse.ensures;
+  cuts = inl refl;
+  room = refused_room _ _ _ _ c.in-Err.ensures.refuses;
+  volume = refused_volume _ _ _ _ c.in-Err.ensures.refuses;
+}

@@ -10,6 +10,7 @@ use Rattle.plain_model.specs.declared.reply.Reply.TheVariants.{Count, Msg}
 use Rattle.plain_model.specs.Meaning.{plain, at_place}
 use Rattle.plain_model.specs.declared.stmt.Stmt.TheVariants.{Insert}
 use Rattle.snap_pages.specs.Shown.{img}
+use Rattle.table_pages.specs.Layout.{place}
 use Rattle.table_pages.specs.Carried.{Holds, Carries}
 use Rattle.engine_core.specs.declared.answer.Answer.TheVariants.{UnderAll, UnderTable}
 use Rattle.engine_core.proofs.Decisions.{insert_narrow, insert_clash, insert_full, insert_made, is_same}
@@ -52,7 +53,7 @@ returns-in-Some g c = IfOk-weaker c.with_edit.result _ _ (λ d is opening seen s
     let ints = setting.ints stmt.table t found in
     let plan = (rw c.in-Some.is at c.in_ok-edit.ensures.some) c.args.name t seen.source holds setting.none.says ints.0 c.requires.ints (eqb-true (length row) (length t.cols) wide) keyed in
     is_same opening opening.source v seen (Insert stmt) _ _ (is ∙ ap (λ n. record { answer = UnderTable n X (Count 1); edits = c.in-Some.edit ∷ [] }) (sym tab))
-    (insert_made opening v seen setting stmt row t b rows found wide c.in-Some.edit keyed (subst (λ (n : List ℕ). Carries v (c.in-Some.edit ∷ []) (applied (Put n row) seen.source)) (sym tab) plan))) c.with_edit.ensures
+    (insert_made opening v seen setting stmt row t b rows found wide c.in-Some.edit keyed (c.args.i, row, record { table = t; within = c.requires.there; holds = subst (λ (n : List ℕ). Holds (img v (place c.args.i)) n t) (sym tab) holds; one = rows }, (rw c.in-Some.is at c.in_ok-edit.ensures.none)) (subst (λ (n : List ℕ). Carries v (c.in-Some.edit ∷ []) (applied (Put n row) seen.source)) (sym tab) plan))) c.with_edit.ensures
 
 pub returns : goal.returns
 returns g c = λ opening seen stmt t setting b rows tab holds there.
@@ -65,4 +66,4 @@ returns g c = λ opening seen stmt t setting b rows tab holds there.
     let at2 = c.image-2.ensures ∙ ap (img v) c.place-2.ensures in
     let keyed = sym (c.has_key.ensures c.args.name t (subst (λ (x : List ℕ). Holds x c.args.name t) (sym at2) holds) cols) ∙ c.if-has_key.false in
     is_same opening opening.source v seen (Insert stmt) _ _ (c.only-in-None.ensures ∙ ap (λ r. record { answer = UnderTable c.args.name X r; edits = [] }) c.refused-in-None.ensures ∙ ap (λ n. record { answer = UnderTable n X (Msg (plain 1105)); edits = [] }) (sym tab))
-    (insert_full opening v seen setting stmt row t b rows found wide keyed)
+    (insert_full opening v seen setting stmt row t b rows found wide keyed (c.args.i, row, record { table = t; within = c.requires.there; holds = subst (λ (n : List ℕ). Holds (img v (place c.args.i)) n t) (sym tab) holds; one = rows }, (rw c.in-None.is at c.in_ok-edit.ensures.none)))

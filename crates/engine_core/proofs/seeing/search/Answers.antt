@@ -58,7 +58,7 @@ returns-in-Named-clause-reply g c = λ kept tables are.
     let shows = subst (λ (r : Glance). Shows c.look_for.new.image c.args.name.now r) c.in-Named.is c.look_for.ensures.shows in
     let read = c.look_for.ensures.read (λ e. let x : Named ≡ Lost = sym c.in-Named.is ∙ e in cc) in
     let n = c.data_pages-i-end.ensures ∙ sym (pages_same c.args.pages.now w (pushes_trans c.args.pages.now v w c.loop-i.invariant.pushes c.look_for.ensures.pushes)) in
-    elim c.shown_or_none.ensures [ inl e ↦ inl e | inr rows ↦ inr (named_ends v w c.args.s c.loop-i.i c.args.name.now c.look_for.new.image c.look_for.ensures.pushes c.loop-i.invariant.passed kept (read kept) tables c.data_pages-i-end.result n are c.loop-i-test.true c.shown_or_none.result shows rows) ]
+    elim c.shown_or_none.ensures.reply [ inl e ↦ inl e | inr rows ↦ inr (named_ends v w c.args.s c.loop-i.i c.args.name.now c.look_for.new.image c.look_for.ensures.pushes c.loop-i.invariant.passed kept (read kept) tables c.data_pages-i-end.result n are c.loop-i-test.true c.shown_or_none.result shows rows) ]
 
 pub loop-i-preserved : goal.loop-i-preserved
 loop-i-preserved g c =

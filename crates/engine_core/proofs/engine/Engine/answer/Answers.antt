@@ -1,4 +1,4 @@
-use Rattle.std.proofs.Common.{◌≡◌, ◌+◌, ◌∙◌, sym, ap, subst}
+use Rattle.std.proofs.Common.{◌≡◌, ◌+◌, ◌∙◌, sym, ap, subst, arith}
 use Rattle.plain_model.specs.State.{committed}
 use Rattle.plain_model.specs.Tables.{Tables}
 use Rattle.snap_pages.specs.Shown.{img}
@@ -13,6 +13,7 @@ use Rattle.engine_core.specs.declared.seat.Seat.{Seat}
 use Rattle.engine_core.specs.Safe.{Run, Safe, AreTables, state, seen_by, seat_at}
 use Rattle.engine_core.specs.Steps.{next_stmt, HasNext}
 use Rattle.engine_core.proofs.CourseLemmas.{enough, few_events, own_seat, own_stmt, safe_answer}
+use Rattle.engine_core.proofs.SayingLemmas.{says_answer}
 use Rattle.engine_core.proofs.engine.Engine.answer.Goals as goal
 
 pub carry_out-requires : goal.carry_out-requires
@@ -60,3 +61,21 @@ invariant_of-self g c =
     safe_answer e safe c.args.place next c.args.decision decided c.carry_out.new.pages c.carry_out.new.ledger does c.carry_out.ensures.still
     (subst (λ (t : Tables). AreTables (data_pages c.carry_out.new.pages) (img c.carry_out.new.pages) t) tables c.carry_out.ensures.tables)
     c.index-seat.result.now c.stmt_at-stmt.result.now c.current_after-current.result seat_is stmt_is c.current_after-current.ensures
+
+pub returns : goal.returns
+returns g c =
+    let e : Run = record {
+      opening = new_source c.self.inside.source c.self.inside.file (names_of (g.V.Volume.folder c.self.inside.opened.value));
+      scripts = c.self.inside.scripts;
+      disk = disk_of g.V.Volume.tells g.V.Volume.folder g.V.Volume.out g.V.Volume.failures g.V.Volume.file_failures c.self.inside.volume;
+      shown = c.self.inside.pages;
+      seats = c.self.inside.seats.items;
+      kept = c.self.inside.ledger;
+    } in
+    let is : c.args.self.now ≡ e = sym c.self.view_is in
+    let safe : Safe e = c.self.invariant in
+    let next = subst (λ (r : Run). HasNext r c.args.place) is c.requires.1.1.1.0 in
+    let decided = subst (λ (r : Run). IsDecision r.opening (seat_at r c.args.place).current r.shown (seen_by (state r)) (next_stmt r c.args.place) c.args.decision) is c.requires.1.1.1.1.0 in
+    let seat_is = own_seat e safe c.args.place next c.index-seat.result.now c.index-seat.ensures in
+    let does = subst (λ (s : Seat). Does (c.args.place + 1) (s.said + 1) c.args.decision.answer c.self.inside.ledger c.carry_out.new.ledger c.self.inside.pages c.carry_out.new.pages) seat_is c.carry_out.ensures.does in
+    says_answer e safe c.args.place next c.args.self.now c.self.view_is c.index-seat.result.now seat_is c.args.decision.answer c.carry_out.new.pages c.carry_out.new.ledger does decided.room decided.fine (omega arith) (omega arith) c.current_after-current.result

@@ -1,6 +1,7 @@
-use Rattle.std.proofs.Common.{◌≡◌}
+use Rattle.std.proofs.Common.{◌≡◌, []}
 use Rattle.engine_core.specs.Safe.{seat_at}
 use Rattle.engine_core.specs.Steps.{Goes, AreOthersSame}
+use Rattle.engine_core.specs.Schedules.{Rounds, due_order}
 use Rattle.engine_core.proofs.engine.Engine.answer_all.Given as goal
 
 abbrev pub invariant-loop : goal.invariant-loop
@@ -8,4 +9,6 @@ invariant-loop g l = record {
   goes : Goes l.fn.self l.self;
   said : (seat_at l.self l.place).said ≡ l.counter;
   others : AreOthersSame l.fn.self l.self l.place;
+  rounds : Rounds l.fn.self l.self;
+  order : due_order l.self [] ≡ due_order l.fn.self [];
 }

@@ -8,7 +8,9 @@ use Rattle.engine_core.specs.Deciding.{IsCut}
 use Rattle.std.specs.Prelude.{Some}
 use Rattle.engine_core.specs.Safe.{Run, Safe}
 use Rattle.engine_core.specs.Steps.{next_stmt, HasNext}
-use Rattle.engine_core.proofs.CourseLemmas.{enough, here, says, own_seat, own_stmt, seat_next, cut_only, says_so}
+use Rattle.engine_core.proofs.CourseLemmas.{enough, here, says, own_seat, own_stmt, seat_next, cut_only}
+use Rattle.engine_core.proofs.SayingLemmas.{says_cut}
+use Rattle.engine_core.specs.Causes.{HasPlace}
 use Rattle.engine_core.proofs.engine.Engine.cut.Goals as goal
 use Rattle.engine_core.proofs.engine.Engine.cut.Goals.{in-CreateSnap, in_default}
 
@@ -75,8 +77,10 @@ returns g c =
     let stmt_is = own_stmt e safe c.args.place next seat c.stmt_at.result.now seat_is c.stmt_at.ensures.is in
     let cut = subst (λ (r : Run). IsCut (next_stmt r c.args.place)) is c.requires.course in
     elim c.match-stmt_at.branch [
-      | in-CreateSnap w ↦ rw w.self-inside-is (says_so e safe c.args.place next c.args.self.now c.self.view_is
+      | in-CreateSnap w ↦
+          let there : HasPlace e.shown (next_stmt e c.args.place) = subst (λ (x : Stmt). HasPlace e.shown x) (sym (stmt_is ∙ w.in-CreateSnap.is)) tt in
+          rw w.self-inside-is (says_cut e safe c.args.place next c.args.self.now c.self.view_is seat seat_is
           (disk_of g.V.Volume.tells g.V.Volume.folder g.V.Volume.out g.V.Volume.failures g.V.Volume.file_failures w.create_snapshot.new.volume)
-          w.create_snapshot.ensures.tells w.create_snapshot.ensures.later w.create_snapshot.ensures.file_later w.create_snapshot.new.pages w.create_snapshot.new.ledger seat seat_is)
+          w.create_snapshot.ensures.tells w.create_snapshot.ensures.later w.create_snapshot.ensures.file_later w.create_snapshot.new.pages w.create_snapshot.new.ledger there w.create_snapshot.ensures.adds)
       | in_default w ↦ absurd (cut_only c.stmt_at.result.now (subst (λ (x : Stmt). IsCut x) stmt_is cut) w.in_default.not-CreateSnap)
     ]

@@ -1,4 +1,10 @@
-use Rattle.std.proofs.Common.{sym, ap, refl}
+use Rattle.std.proofs.Common.{ℕ, List, ◌++◌, ◌∙◌, sym, ap, refl, false}
+use Rattle.plain_model.specs.State.{master}
+use Rattle.plain_model.specs.Order.{closers, order}
+use Rattle.engine_core.specs.declared.seat.Seat.{Seat}
+use Rattle.engine_core.specs.Entering.{Kept}
+use Rattle.engine_core.specs.Schedules.{owed}
+use Rattle.engine_core.proofs.OrderLemmas.{owed_fresh}
 use Rattle.engine_core.specs.Opened.{names_of, new_source}
 use Rattle.engine_core.specs.Disks.{disk_of}
 use Rattle.engine_core.proofs.FreshLemmas.{safe_fresh}
@@ -16,3 +22,9 @@ invariant_of-result g c = safe_fresh (record {
     c.in-Ok.ensures.images c.in-Ok.ensures.counts c.in-Ok.ensures.catalog c.in-Ok.ensures.seats
     (ap (λ k. k.events) c.in-Ok.ensures.ledger) (ap (λ k. k.room) c.in-Ok.ensures.ledger)
     (ap g.V.Volume.folder (sym c.of.ensures)) c.requires.out
+
+pub returns-clause-order : goal.returns-clause-order
+returns-clause-order g c = λ picks.
+    ap (λ (k : Kept). closers k.events ++ order (owed c.args.scripts c.in-Ok.field-0.seats.items) picks) c.in-Ok.ensures.ledger
+    ∙ ap (λ (seats : List Seat). order (owed c.args.scripts seats) picks) c.in-Ok.ensures.seats
+    ∙ ap (λ (left : List ℕ). order left picks) (owed_fresh c.args.scripts (record { current = master; said = 0; gone = false }) refl refl)

@@ -9,7 +9,10 @@ use Rattle.engine_core.specs.Safe.{Run, Safe, seat_at}
 use Rattle.engine_core.specs.Steps.{next_stmt, HasNext}
 use Rattle.engine_core.proofs.AnswerLemmas.{does_one}
 use Rattle.engine_core.proofs.PushLemmas.{leaves_of}
-use Rattle.engine_core.proofs.CourseLemmas.{enough, own_seat, says_so, safe_see}
+use Rattle.engine_core.proofs.CourseLemmas.{enough, own_seat, safe_see}
+use Rattle.engine_core.proofs.SayingLemmas.{roomy, says_seen}
+use Rattle.engine_core.specs.Causes.{HasPlace}
+use Rattle.plain_model.specs.declared.stmt.Stmt.{Stmt}
 use Rattle.engine_core.proofs.engine.Engine.see.Goals as goal
 
 pub enter_reply-requires : goal.enter_reply-requires
@@ -65,5 +68,12 @@ returns g c =
     let is : c.args.self.now ≡ e = sym c.self.view_is in
     let safe : Safe e = c.self.invariant in
     let next = subst (λ (r : Run). HasNext r c.args.place) is c.requires.next in
+    let seeing = subst (λ (r : Run). IsSeeing r.opening (seat_at r c.args.place).current r.shown (next_stmt r c.args.place) c.args.s c.args.name.now) is c.requires.course in
     let seat_is = own_seat e safe c.args.place next c.index-seat.result.now c.index-seat.ensures in
-    says_so e safe c.args.place next c.args.self.now c.self.view_is e.disk refl (omega arith) (omega arith) c.select_in-reply.new.pages c.enter_reply.new.ledger c.index-seat.result.now seat_is
+    let s = c.select_in-reply in
+    let does = does_one (c.args.place + 1) (c.index-seat.result.now.said + 1) c.len-began.result (AtOnce s.result) s.result c.self.inside.ledger c.self.inside.ledger s.new.ledger c.enter_reply.new.ledger c.self.inside.pages s.new.pages
+    (sym (append-nil c.self.inside.ledger.events)) (omega arith) s.ensures.turns (leaves_of c.self.inside.pages s.new.pages s.ensures.pushes) c.enter_reply.ensures refl c.len-began.ensures (enough e safe c.args.place next) (omega arith) in
+    let there : HasPlace e.shown (next_stmt e c.args.place) = subst (λ (x : Stmt). HasPlace e.shown x) (sym seeing.is) tt in
+    says_seen e safe c.args.place next c.args.self.now c.self.view_is c.index-seat.result.now seat_is (AtOnce s.result) s.new.pages c.enter_reply.new.ledger
+    (subst (λ (t : Seat). Does (c.args.place + 1) (t.said + 1) (AtOnce s.result) c.self.inside.ledger c.enter_reply.new.ledger c.self.inside.pages s.new.pages) seat_is does)
+    (roomy e.shown (next_stmt e c.args.place) s.result there s.ensures.room) s.ensures.volume (omega arith) (omega arith)

@@ -1,0 +1,61 @@
+-- Why a statement is answered that there is no room, or that the volume failed.
+use Rattle.std.specs.Prelude.{ℕ, ◌≡◌, ◌≢◌, ◌<◌, List, [], ◌∷◌}
+use Rattle.page_base.specs.declared.value.Value.{Value}
+use Rattle.page_dev.specs.Faults.{Rose}
+use Rattle.plain_model.specs.declared.stmt.Stmt.{Stmt}
+use Rattle.plain_model.specs.declared.stmt.Stmt.TheVariants.{CreateTable, Insert}
+use Rattle.plain_model.specs.declared.stmt.InsertStmt.{InsertStmt}
+use Rattle.plain_model.specs.declared.reply.Reply.{Reply}
+use Rattle.plain_model.specs.declared.reply.Reply.TheVariants.{Msg}
+use Rattle.plain_model.specs.Tables.{Table}
+use Rattle.plain_model.specs.Meaning.{new_rows}
+use Rattle.snap_pages.specs.Shown.{Shown, img}
+use Rattle.table_pages.specs.Layout.{place}
+use Rattle.table_pages.specs.Carried.{data_pages, Holds, LacksPage, LacksRow}
+
+-- a page holds the table of an INSERT, which has this one row
+pub record IsForRow (v : Shown) (i : InsertStmt) (at : ℕ) (row : List Value) : Type 0 where
+  pub table : Table
+  pub within : at < data_pages v
+  pub holds : Holds (img v (place at)) i.table table
+  pub one : new_rows i ≡ row ∷ []
+
+-- the page that holds the table has no room for the row
+abbrev pub LacksSpace : Shown → InsertStmt → Type 0
+LacksSpace v i = (at : ℕ) × (row : List Value) × IsForRow v i at row × LacksRow (img v (place at)) row
+
+-- the page that holds the table has room for the row
+abbrev pub HasSpace : Shown → InsertStmt → Type 0
+HasSpace v i = (at : ℕ) × (row : List Value) × IsForRow v i at row × (LacksRow (img v (place at)) row → ⊥)
+
+-- these pages have no room for what the statement makes
+abbrev pub LacksRoom : Shown → Stmt → Type 0
+LacksRoom v (CreateTable name cols) = LacksPage v name cols
+LacksRoom v (Insert i) = LacksSpace v i
+LacksRoom v stmt = ⊥
+
+-- these pages have room for what the statement makes
+abbrev pub HasPlace : Shown → Stmt → Type 0
+HasPlace v (CreateTable name cols) = LacksPage v name cols → ⊥
+HasPlace v (Insert i) = HasSpace v i
+HasPlace v stmt = Unit {0}
+
+-- over these pages 1105 comes only where they have no room, and success only where they have it
+abbrev pub IsRoomReply : Shown → Stmt → Reply → Type 0
+IsRoomReply v stmt (Msg m) = m.number ≡ 1105 → LacksRoom v stmt
+IsRoomReply v stmt reply = HasPlace v stmt
+
+-- 60021 comes only where the volume's count of faults rose
+abbrev pub IsVolumeReply : ℕ → ℕ → Reply → Type 0
+IsVolumeReply before now (Msg m) = m.number ≡ 60021 → Rose before now
+IsVolumeReply before now reply = Unit {0}
+
+-- the reply doesn't say that there is no room
+abbrev pub IsNoShortage : Reply → Type 0
+IsNoShortage (Msg m) = m.number ≢ 1105
+IsNoShortage reply = Unit {0}
+
+-- the reply doesn't say that the volume failed
+abbrev pub IsNoFailure : Reply → Type 0
+IsNoFailure (Msg m) = m.number ≢ 60021
+IsNoFailure reply = Unit {0}
