@@ -19,6 +19,8 @@ mod pushing;
 mod refusal;
 mod seat;
 mod seeing;
+#[cfg(test)]
+mod tests;
 
 pub use closing::CloseEnd;
 pub use engine::{Closed, Engine, OpenRefused};
