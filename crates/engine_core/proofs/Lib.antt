@@ -21,4 +21,5 @@ mod CutSafe
 mod NameLemmas
 mod CloseLemmas
 mod EndLemmas
+pub mod CallerLemmas
 mod OrderLemmas

@@ -1,10 +1,14 @@
 -- What a session's statement enters in the history, whichever course it takes.
-use Rattle.std.proofs.Common.{◌≡◌, ◌+◌, ◌≤◌, ◌⊎◌, inl, inr, ℕ, Bool, false, List, [], ◌∷◌, ◌++◌, length, refl, append_assoc, ap, sym, ◌∙◌, subst}
+use Rattle.std.proofs.Common.{◌≡◌, ◌+◌, ◌≤◌, ◌⊎◌, inl, inr, ℕ, Bool, true, false, ◌||◌, List, [], ◌∷◌, ◌++◌, length, refl, append_assoc, ap, sym, ◌∙◌, subst}
 use Rattle.std.proofs.Math.ListN.{set}
-use Rattle.std.specs.List.{AllByRecursion}
+use Rattle.std.specs.List.{AllByRecursion, list_any}
+use Rattle.std.specs.Prelude.{◌==◌}
+use Rattle.std.proofs.lemmas.Bool.{eqb-true}
+use Rattle.page_base.specs.declared.numbers.SessNo.{SessNo}
+use Rattle.page_dev.specs.Faults.{Rose}
 use Rattle.plain_model.specs.declared.stmt.Stmt.{Stmt}
 use Rattle.plain_model.specs.declared.event.Event.{Event}
-use Rattle.plain_model.specs.declared.event.Event.TheVariants.{CutAt, Said}
+use Rattle.plain_model.specs.declared.event.Event.TheVariants.{Locked, CutAt, RestoreAt, Turned, Said, Left}
 use Rattle.plain_model.specs.declared.reply.Reply.{Reply}
 use Rattle.plain_model.specs.declared.reply.Reply.TheVariants.{Ok, Count, Rows, Msg}
 use Rattle.snap_pages.specs.Shown.{Shown}
@@ -17,9 +21,10 @@ use Rattle.engine_core.specs.Ready.{reply_of}
 use Rattle.engine_core.specs.Stepping.{number, lock_events}
 use Rattle.engine_core.specs.Safe.{Run, Disk, seat_at, Safe}
 use Rattle.engine_core.specs.Doing.{Does}
-use Rattle.engine_core.specs.Causes.{HasPlace, IsRoomReply, IsVolumeReply, IsNoShortage, IsNoFailure}
+use Rattle.engine_core.specs.Causes.{HasPlace, IsRoomReply, IsVolumeReply, IsNoShortage, IsNoFailure, is_failure}
 use Rattle.engine_core.specs.Creating.{Adds}
 use Rattle.engine_core.specs.Steps.{next_stmt, HasNext, IsOwn, Says}
+use Rattle.engine_core.proofs.SafeLemmas.{either}
 use Rattle.engine_core.proofs.CourseLemmas.{here, within}
 
 -- a reply that doesn't say that there is no room, over pages that have it
@@ -54,6 +59,27 @@ cut_amid : (k : ℕ) (old new : Shown) (es : List Event) → (es ≡ []) ⊎ ((s
 cut_amid k old new es (inl is) = subst (λ (x : List Event). AllByRecursion (Amid k old new) x) (sym is) tt
 cut_amid k old new es (inr is) = subst (λ (x : List Event). AllByRecursion (Amid k old new) x) (sym is.1) (inl refl, tt)
 
+no_reply : (k : ℕ) (old new : Shown) (x : Event) → Amid k old new x → is_failure x ≡ false
+no_reply k old new (Locked who t m) h = refl
+no_reply k old new (CutAt who s) h = refl
+no_reply k old new (RestoreAt who s) h = refl
+no_reply k old new (Turned s) h = refl
+no_reply k old new (Said w n b r) (inl h) = absurd h
+no_reply k old new (Said w n b r) (inr t) = absurd (let e = t.is in cc)
+no_reply k old new (Left w) h = refl
+
+-- where the reply says that the volume failed its count rose
+blamed_last : (before now : ℕ) (w : SessNo) (n b : ℕ) (r : Reply) → IsVolumeReply before now r → list_any is_failure (Said w n b r ∷ []) ≡ true → Rose before now
+blamed_last before now w n b (Msg m) h t = elim (either (m.number == 60021) false t) [ inl e ↦ h (eqb-true m.number 60021 e) | inr e ↦ absurd (let x : false ≡ true = e in cc) ]
+blamed_last before now w n b Ok h t = absurd (let x : false ≡ true = t in cc)
+blamed_last before now w n b (Count c) h t = absurd (let x : false ≡ true = t in cc)
+blamed_last before now w n b (Rows rs) h t = absurd (let x : false ≡ true = t in cc)
+
+blamed : (before now k : ℕ) (old new : Shown) (amid : List Event) (w : SessNo) (n b : ℕ) (r : Reply) → AllByRecursion (Amid k old new) amid → IsVolumeReply before now r → list_any is_failure (amid ++ Said w n b r ∷ []) ≡ true → Rose before now
+blamed before now k old new [] w n b r each h t = blamed_last before now w n b r h t
+blamed before now k old new (x ∷ xs) w n b r each h t =
+    blamed before now k old new xs w n b r each.1 h (sym (ap (λ (c : Bool). c || list_any is_failure (xs ++ Said w n b r ∷ [])) (no_reply k old new x each.0)) ∙ t)
+
 module _ (e : Run) (safe : Safe e) (i : ℕ) (next : HasNext e i) (old : Run) (is : e ≡ old) (seat : Seat) (seat_is : seat ≡ seat_at e i) where
   -- the session alone moved, and its reply stands last behind events of its own and turns
   module _ (disk : Disk) (told : disk.told ≡ e.disk.told) (failures : e.disk.failures ≤ disk.failures) (file_failures : e.disk.file_failures ≤ disk.file_failures) (v : Shown) (kept : Kept)
@@ -70,7 +96,7 @@ module _ (e : Run) (safe : Safe e) (i : ℕ) (next : HasNext e i) (old : Run) (i
           current = current;
           steps = record {
             within = within e safe i next;
-            goes = record { opening = refl; scripts = refl; told = told; came = amid ++ Said (number (i + 1)) ((seat_at e i).said + 1) (length e.kept.events) reply ∷ []; grows = grows; failures = failures; file_failures = file_failures };
+            goes = record { opening = refl; scripts = refl; told = told; came = amid ++ Said (number (i + 1)) ((seat_at e i).said + 1) (length e.kept.events) reply ∷ []; grows = grows; failures = failures; file_failures = file_failures; blame = blamed e.disk.failures disk.failures (i + 1) e.shown v amid (number (i + 1)) ((seat_at e i).said + 1) (length e.kept.events) reply each volume };
             seats = refl;
           };
           reply = reply;

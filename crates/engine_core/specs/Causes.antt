@@ -1,5 +1,5 @@
 -- Why a statement is answered that there is no room, or that the volume failed.
-use Rattle.std.specs.Prelude.{ℕ, ◌≡◌, ◌≢◌, ◌<◌, List, [], ◌∷◌}
+use Rattle.std.specs.Prelude.{ℕ, ◌≡◌, ◌≢◌, ◌<◌, Bool, false, ◌==◌, List, [], ◌∷◌}
 use Rattle.page_base.specs.declared.value.Value.{Value}
 use Rattle.page_dev.specs.Faults.{Rose}
 use Rattle.plain_model.specs.declared.stmt.Stmt.{Stmt}
@@ -7,6 +7,8 @@ use Rattle.plain_model.specs.declared.stmt.Stmt.TheVariants.{CreateTable, Insert
 use Rattle.plain_model.specs.declared.stmt.InsertStmt.{InsertStmt}
 use Rattle.plain_model.specs.declared.reply.Reply.{Reply}
 use Rattle.plain_model.specs.declared.reply.Reply.TheVariants.{Msg}
+use Rattle.plain_model.specs.declared.event.Event.{Event}
+use Rattle.plain_model.specs.declared.event.Event.TheVariants.{Said}
 use Rattle.plain_model.specs.Tables.{Table}
 use Rattle.plain_model.specs.Meaning.{new_rows}
 use Rattle.snap_pages.specs.Shown.{Shown, img}
@@ -49,6 +51,11 @@ IsRoomReply v stmt reply = HasPlace v stmt
 abbrev pub IsVolumeReply : ℕ → ℕ → Reply → Type 0
 IsVolumeReply before now (Msg m) = m.number ≡ 60021 → Rose before now
 IsVolumeReply before now reply = Unit {0}
+
+-- the event is a reply that the volume, or a file, failed
+abbrev pub is_failure : Event → Bool
+is_failure (Said who n began (Msg m)) = m.number == 60021
+is_failure event = false
 
 -- the reply doesn't say that there is no room
 abbrev pub IsNoShortage : Reply → Type 0

@@ -1,6 +1,7 @@
 -- One step of a session: what it enters in the history, and what it leaves of the run.
 use Rattle.std.specs.Prelude.{ℕ, ◌≡◌, ◌≢◌, ◌⊎◌, ◌+◌, ◌<◌, ◌≤◌, true, false, List, [], ◌∷◌, ◌++◌, length, slice_index_or, slice_set}
-use Rattle.std.specs.List.{AllByRecursion}
+use Rattle.std.specs.List.{AllByRecursion, list_any}
+use Rattle.page_dev.specs.Faults.{Rose}
 use Rattle.plain_model.specs.declared.stmt.Stmt.{Stmt}
 use Rattle.plain_model.specs.declared.stmt.Stmt.TheVariants.{Broken}
 use Rattle.plain_model.specs.declared.reply.Reply.{Reply}
@@ -9,7 +10,7 @@ use Rattle.plain_model.specs.declared.event.Event.TheVariants.{Locked, CutAt, Sa
 use Rattle.plain_model.specs.State.{master}
 use Rattle.engine_core.specs.declared.seat.Seat.{Seat}
 use Rattle.engine_core.specs.Pushing.{IsTurn}
-use Rattle.engine_core.specs.Causes.{IsRoomReply, IsVolumeReply}
+use Rattle.engine_core.specs.Causes.{IsRoomReply, IsVolumeReply, is_failure}
 use Rattle.engine_core.specs.Stepping.{number}
 use Rattle.engine_core.specs.Safe.{Run, seat_at, script_at}
 
@@ -22,8 +23,8 @@ pub record HasNext (e : Run) (i : ℕ) : Type 0 where
   pub there : i < length e.scripts
   pub more : (seat_at e i).said < length (script_at e i)
 
--- The run began as it did, over the same volume, with the same scripts; the history only grows, and the volume's counts
--- of faults never fall.
+-- The run began as it did, over the same volume, with the same scripts. The history only grows; the volume's counts of
+-- faults never fall, and where a reply that came says that the volume failed its count rose.
 pub record Goes (old new : Run) : Type 0 where
   pub opening : new.opening ≡ old.opening
   pub scripts : new.scripts ≡ old.scripts
@@ -32,6 +33,7 @@ pub record Goes (old new : Run) : Type 0 where
   pub grows : new.kept.events ≡ old.kept.events ++ came
   pub failures : old.disk.failures ≤ new.disk.failures
   pub file_failures : old.disk.file_failures ≤ new.disk.file_failures
+  pub blame : list_any is_failure came ≡ true → Rose old.disk.failures new.disk.failures
 
 -- session i + 1 alone moved, and has this seat now
 pub record Steps (old new : Run) (i : ℕ) (seat : Seat) : Type 0 where

@@ -74,7 +74,7 @@ returns g c =
       all = all;
       steps = record {
         within = let s = safe.sessions.seats in omega (arith, s, there);
-        goes = record { opening = refl; scripts = refl; told = refl; came = Left (number (c.args.place + 1)) ∷ []; grows = entered_is; failures = omega arith; file_failures = omega arith };
+        goes = record { opening = refl; scripts = refl; told = refl; came = Left (number (c.args.place + 1)) ∷ []; grows = entered_is; failures = omega arith; file_failures = omega arith; blame = λ h. absurd (let x : false ≡ true = h in cc) };
         seats = ap (set e.seats c.args.place) (ap (λ (n : List ℕ). record { current = n; said = c.index.result.now.said; gone = true }) c.master.ensures ∙ ap (λ (s : Seat). record { current = master; said = s.said; gone = true }) read);
       };
       enters = entered_is;

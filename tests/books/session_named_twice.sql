@@ -1,0 +1,2 @@
+:session 2
+:session 2
