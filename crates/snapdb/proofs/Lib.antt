@@ -1,5 +1,4 @@
 mod Writing
-mod Reading
 mod OneWord
 mod Refusals
 mod Closings

@@ -1,15 +1,21 @@
 -- What the program promises of its answer.
 use Rattle.std.specs.Prelude.{ℕ, ◌≡◌, ◌<◌, ◌≤◌, ◌⊎◌, ◌++◌, Bool, IsTrue, List, [], ◌∷◌, length, codes, Option}
+use Rattle.std.specs.Fmt.{decimal}
 use Rattle.std.specs.Io.KnownBytes.{Consumes, IsAtEnd}
 use Rattle.page_dev.specs.Faults.{Rose}
 use Rattle.plain_model.specs.declared.stmt.Stmt.{Stmt}
+use Rattle.plain_model.specs.declared.pick.Pick.{Pick}
 use Rattle.plain_model.specs.declared.event.Event.{Event}
 use Rattle.plain_model.specs.Journal.{Opening}
 use Rattle.plain_model.specs.Legal.{Legal}
 use Rattle.plain_model.specs.Complete.{Complete}
+use Rattle.plain_model.specs.Order.{IsInOrder}
 use Rattle.plain_model.specs.Printed.{printed}
 use Rattle.engine_core.specs.Opened.{new_source}
-use Rattle.snapdb.specs.Script.{IsScript}
+use Rattle.script_read.specs.declared.refusal.Why.{Why}
+use Rattle.script_read.specs.Words.{text_of}
+use Rattle.script_read.specs.Script.{IsScript}
+use Rattle.script_read.specs.Refusal.{IsRefusedAt}
 
 -- the words of the one command
 abbrev pub IsPlay : List (List ℕ) → Type 0
@@ -23,13 +29,15 @@ Reads old new bytes = Consumes old new bytes × IsAtEnd new
 abbrev pub fresh : List (List ℕ) → Opening
 fresh names = new_source (codes "shop") (codes "shop_data") names
 
--- The book is one complete history of the script, and a legal one where the volume tells its content. The names are
--- those on the volume at the beginning.
+-- The book is one complete history of the script, in the order of its schedule, and a legal one where the volume tells
+-- its content. The names are those on the volume at the beginning.
 pub record IsHistory (told : Bool) (names : List (List ℕ)) (bytes : List ℕ) (book : List Event) : Type 0 where
   pub scripts : List (List Stmt)
-  pub script : IsScript bytes scripts
+  pub picks : List Pick
+  pub script : IsScript bytes scripts picks
   pub legal : IsTrue told → Legal (fresh names) scripts book
   pub complete : Complete scripts book
+  pub order : IsInOrder scripts picks book
 
 -- a whole script was read, and the book is its history
 abbrev pub Tells : Bool → List (List ℕ) → Option (List ℕ) → Option (List ℕ) → List Event → Type 0
@@ -39,15 +47,16 @@ Tells told names old new book = (bytes : List ℕ) × Reads old new bytes × IsH
 abbrev pub Exceeds : Option (List ℕ) → Option (List ℕ) → Type 0
 Exceeds old new = (bytes : List ℕ) × Consumes old new bytes × (16777216 < length bytes)
 
--- all bytes were read, are at most 16,777,216, and are no script
-abbrev pub IsNoScript : Option (List ℕ) → Option (List ℕ) → Type 0
-IsNoScript old new = (bytes : List ℕ) × Reads old new bytes × (length bytes ≤ 16777216) × ((scripts : List (List Stmt)) → IsScript bytes scripts → ⊥)
+-- all bytes were read, are at most 16,777,216, and this line is the first that is refused, so that they are no script
+abbrev pub IsRefused : Option (List ℕ) → Option (List ℕ) → ℕ → Why → Type 0
+IsRefused old new line why = (bytes : List ℕ) × Reads old new bytes × (length bytes ≤ 16777216) × IsRefusedAt bytes line why
 
 abbrev pub usage_line : List ℕ
 usage_line = codes "refused: usage\n"
 
-abbrev pub unbuilt_line : List ℕ
-unbuilt_line = codes "refused: script unbuilt\n"
+-- the line that names the first line of a script that is refused
+abbrev pub script_line : ℕ → Why → List ℕ
+script_line line why = codes "refused: script line " ++ decimal line ++ codes " " ++ text_of why ++ codes "\n"
 
 abbrev pub long_line : List ℕ
 long_line = codes "refused: script long\n"
@@ -56,11 +65,11 @@ long_line = codes "refused: script long\n"
 abbrev pub close_line : List ℕ → List ℕ
 close_line name = codes "refused: close " ++ name ++ codes "\n"
 
--- Which line refuses the call: the words are no command; the bytes that were read are no script; or more bytes than a
--- script may have were taken.
+-- Which line refuses the call: the words are no command; a line of the script that was read is refused; or more bytes
+-- than a script may have were taken.
 pub data Refuses (words : List (List ℕ)) (old new : Option (List ℕ)) : List ℕ → Type 0 where
   Usage : (IsPlay words → ⊥) → Refuses words old new usage_line
-  Unbuilt : IsPlay words → IsNoScript old new → Refuses words old new unbuilt_line
+  Script : (line : ℕ) (why : Why) → IsPlay words → IsRefused old new line why → Refuses words old new (script_line line why)
   TooLong : IsPlay words → Exceeds old new → Refuses words old new long_line
 
 -- The text of a run: that of its history; or, where the volume's count of faults rose, that and the line of a file

@@ -1,4 +1,3 @@
-pub mod Script
 pub mod Headline
 pub mod Refusing
 pub mod Closed

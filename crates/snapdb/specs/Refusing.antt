@@ -4,15 +4,15 @@ use Rattle.std.specs.Io.KnownBytes.{Appends, Keeps}
 use Rattle.page_dev.specs.Faults.{Rose}
 use Rattle.page_dev.specs.Sink.{AppendsFront}
 use Rattle.snapdb.specs.declared.top.PlayRefusal.{PlayRefusal}
-use Rattle.snapdb.specs.declared.top.PlayRefusal.TheVariants.{Source, Memory, Long, Unbuilt}
-use Rattle.snapdb.specs.Headline.{long_line, unbuilt_line, Exceeds, IsNoScript}
+use Rattle.snapdb.specs.declared.top.PlayRefusal.TheVariants.{Source, Memory, Long, Script}
+use Rattle.snapdb.specs.Headline.{long_line, script_line, Exceeds, IsRefused}
 
 -- the cause of each refusal, by what was left of the source, what is left, and its counts of faults
 abbrev pub HasReason : PlayRefusal → Option (List ℕ) → Option (List ℕ) → ℕ → ℕ → Type 0
 HasReason Source old new before now = Rose before now
 HasReason Memory old new before now = ⊤
 HasReason Long old new before now = Exceeds old new
-HasReason Unbuilt old new before now = IsNoScript old new
+HasReason (Script line why) old new before now = IsRefused old new line why
 
 -- the line was written whole with status 2, or a front of it with the sink's refusal
 pub record WritesLine (line : List ℕ) (status : ℕ) (old new : Option (List ℕ)) (before now : ℕ) : Type 0 where
@@ -33,4 +33,4 @@ abbrev pub Answers : PlayRefusal → ℕ → Option (List ℕ) → Option (List 
 Answers Source status old new before now = Silent 5 status old new before now
 Answers Memory status old new before now = Silent 4 status old new before now
 Answers Long status old new before now = WritesLine long_line status old new before now
-Answers Unbuilt status old new before now = WritesLine unbuilt_line status old new before now
+Answers (Script line why) status old new before now = WritesLine (script_line line why) status old new before now

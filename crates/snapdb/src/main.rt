@@ -2,7 +2,6 @@
 #![tactic(auto)]
 
 mod adapters;
-mod script;
 mod stream;
 #[cfg(test)]
 mod tests;

@@ -43,28 +43,66 @@ fn a_whole_script_is_told(rt: HostRuntime) -> Result<(), Fail> {
 
 #[test]
 fn what_is_no_script_is_refused(rt: HostRuntime) -> Result<(), Fail> {
-    let unbuilt = b"refused: script unbuilt\n".as_slice();
-    let usage = b"refused: usage\n".as_slice();
     let cases = [
-        (b"plya".as_slice(), FIRST, usage),
-        (b"play", b"", unbuilt),
-        (b"play", b"USE shop\n", unbuilt),
-        (b"play", b":session 2\nUSE shop\n", unbuilt),
-        (b"play", b":session 1 \nUSE shop\n", unbuilt),
-        (b"play", b":session 1\nUSE shop\n:session 2\n", unbuilt),
+        (
+            b"plya".as_slice(),
+            FIRST,
+            b"refused: usage\n".as_slice(),
+        ),
         (
             b"play",
-            b":session 1\nUSE shop\n \tgO \nUSE shop\n",
-            unbuilt,
+            b":session 2\n:session 2\n",
+            b"refused: script line 1 session\n",
         ),
-        (b"play", b":session 1\r\nUSE shop\n", unbuilt),
-        (b"play", b":session 1\nUSE \x80\n", unbuilt),
+        (
+            b"play",
+            b":session \x801\n",
+            b"refused: script line 1 byte\n",
+        ),
+        (
+            b"play",
+            b"USE shop\n:session 1\n",
+            b"refused: script line 1 before\n",
+        ),
+        (
+            b"play",
+            b"\n:session 1\n:play\n",
+            b"refused: script line 3 directive\n",
+        ),
+        (
+            b"play",
+            b":session 1\nUSE shop\n:schedule\n1 2\n",
+            b"refused: script line 4 pick\n",
+        ),
+        (
+            b"play",
+            b":session 1\nUSE \rshop\n",
+            b"refused: script line 2 byte\n",
+        ),
     ];
     for (word, script, line) in cases {
         let (status, written) = played(rt.alloc(), word, script)?;
         assert_eq!(rt; status, 2);
         assert_eq!(rt; written.as_slice(), line);
     }
+    Ok(())
+}
+
+#[test]
+fn nothing_is_played_of_no_sessions(rt: HostRuntime) -> Result<(), Fail> {
+    let (status, written) = played(rt.alloc(), b"play", b"")?;
+    assert_eq!(rt; status, 0);
+    assert_eq!(rt; written.as_slice(), b"".as_slice());
+    Ok(())
+}
+
+#[test]
+fn a_schedule_says_whose_statement_comes(rt: HostRuntime) -> Result<(), Fail> {
+    let script = b":session 1\nUSE shop\n:session 2\nUSE shop\n:schedule\n2! 0 2@change\n";
+    let book = b"2 said 1 0 ok\n2 left\n1 said 1 2 ok\n1 left\n";
+    let (status, written) = played(rt.alloc(), b"play", script)?;
+    assert_eq!(rt; status, 0);
+    assert_eq!(rt; written.as_slice(), book.as_slice());
     Ok(())
 }
 
@@ -76,6 +114,30 @@ fn statements_are_counted(rt: HostRuntime) -> Result<(), Fail> {
             script.extend_from_slice(b"USE shop\n")?;
         }
         assert_eq!(rt; played(rt.alloc(), b"play", &script)?.0, status);
+    }
+    Ok(())
+}
+
+// A schedule of so many entries of session 1 on line 3.
+fn picks(alloc: Global, count: u32) -> Result<Vec<u8>, Fail> {
+    let mut script = b":session 1\n:schedule\n".to_vec(alloc)?;
+    for _ in 0..count {
+        script.extend_from_slice(b"1 ")?;
+    }
+    Ok(script)
+}
+
+#[test]
+fn a_schedule_has_a_greatest_length(rt: HostRuntime) -> Result<(), Fail> {
+    let cases = [
+        (1_000_000, 0, b"1 left\n".as_slice()),
+        (1_000_001, 2, b"refused: script line 3 many\n"),
+    ];
+    for (count, wanted, line) in cases {
+        let script = picks(rt.alloc(), count)?;
+        let (status, written) = played(rt.alloc(), b"play", &script)?;
+        assert_eq!(rt; status, wanted);
+        assert_eq!(rt; written.as_slice(), line);
     }
     Ok(())
 }

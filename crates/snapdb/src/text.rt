@@ -1,12 +1,14 @@
-//! The text of a history, event by event.
+//! The texts that are printed: a history event by event, and the line of a refused script.
 
 ghost use Rattle.std.specs.Prelude.{◌≡◌, ◌++◌, ◌∷◌, [], OnOk, IfOk, ℤ, codes};
 ghost use Rattle.std.specs.Fmt.{decimal, signed_decimal};
 ghost use Rattle.std.specs.List.{flat_map};
 ghost use Rattle.plain_model.specs.declared.event.Event.TheVariants.{Locked, Turned, Said, Left};
+ghost use Rattle.snapdb.specs.Headline.{script_line};
 ghost use Rattle.plain_model.specs.Printed.{printed, event_text, reply_text, row_text, value_text, lock_text, mode_text, carried_text, quoted, next_value_text, values_text};
 
 use page_base::{Mode, Name, Row, SessNo, Value};
+use script_read::Why;
 use plain_model::{Book, Carried, Event, LockName, Reply};
 use std::alloc::{AllocError, Global};
 
@@ -243,5 +245,18 @@ pub fn book_text(alloc: Global, book: &Book) -> Result<Vec<u8>, AllocError>
     for event in book.as_slice() {
         push_event(alloc, &mut text, event)?;
     }
+    Ok(text)
+}
+
+/// The line that names the first line of a script that is refused, and why.
+pub(crate) fn script_line(alloc: Global, line: u32, why: Why) -> Result<Vec<u8>, AllocError>
+    ensures { IfOk result (λ text. text.items ≡ script_line line why) }
+{
+    let mut text = Vec::new(alloc);
+    text.extend_from_slice(b"refused: script line ")?;
+    push_number(alloc, &mut text, u64::from(line))?;
+    text.extend_from_slice(b" ")?;
+    text.extend_from_slice(why.word().as_bytes())?;
+    text.extend_from_slice(b"\n")?;
     Ok(text)
 }

@@ -1,6 +1,6 @@
 //! The call that does all that the program does, over any volume, source and sink.
 
-ghost use Rattle.std.specs.Prelude.{◌≡◌, ◌⊎◌, ◌≤◌, ◌++◌, true, false, [], List, ℕ, map, codes, IsTrue, IfOk, IfErr};
+ghost use Rattle.std.specs.Prelude.{All, length, ◌≡◌, ◌⊎◌, ◌≤◌, ◌++◌, true, false, [], List, ℕ, map, codes, IsTrue, IfOk, IfErr};
 ghost use Rattle.std.specs.List.{list_any};
 ghost use Rattle.std.specs.FinSet as finset;
 ghost use Rattle.std.specs.Io.KnownBytes.{Appends, Keeps};
@@ -8,23 +8,26 @@ ghost use Rattle.page_dev.specs.Faults.{Rose};
 ghost use Rattle.page_dev.specs.Sink.{AppendsFront};
 ghost use Rattle.plain_model.specs.Complete.{Complete};
 ghost use Rattle.plain_model.specs.Legal.{Legal};
+ghost use Rattle.plain_model.specs.Order.{IsInOrder};
+ghost use Rattle.plain_model.specs.declared.pick.Pick.{Pick};
 ghost use Rattle.plain_model.specs.Printed.{printed};
 ghost use Rattle.engine_core.specs.Closing.{IsFault};
 ghost use Rattle.engine_core.specs.Opened.{names_of};
 ghost use Rattle.engine_core.specs.Safe.{is_turn};
 ghost use Rattle.snapdb.specs.Closed.{told_text, status_of};
-ghost use Rattle.snapdb.specs.Refusing.{Answers, HasReason};
-ghost use Rattle.snapdb.specs.Script.{IsScript};
-ghost use Rattle.snapdb.specs.Headline.{IsPlay, Reads, Tells, Refuses, IsDue, close_line, fresh};
+ghost use Rattle.snapdb.specs.Refusing.{Answers, HasReason, WritesLine};
+ghost use Rattle.script_read.specs.declared.refusal.Why.{Why};
+ghost use Rattle.script_read.specs.Script.{IsScript};
+ghost use Rattle.snapdb.specs.Headline.{IsPlay, Reads, Tells, Refuses, IsDue, close_line, script_line, fresh};
 
-use crate::script::{ScriptRefusal, read_script};
 use crate::stream::{ReadRefusal, read_all, write_all};
-use crate::text::book_text;
+use crate::text::{book_text, script_line};
 use crate::words::is_play;
 use engine_core::{CloseEnd, Closed, Engine, OpenRefused};
 use page_base::{FileName, Name};
 use page_dev::{Sink, SinkRefusal, Source, Volume};
-use plain_model::{Book, Scripts};
+use plain_model::Book;
+use script_read::{ScriptRefusal, Why, Work2, read_script};
 use std::alloc::{AllocError, Global};
 
 /// How a call ended: its status, the volume with all files back, and the history.
@@ -41,7 +44,7 @@ enum PlayRefusal {
     Source,
     Memory,
     Long,
-    Unbuilt,
+    Script { line: u32, why: Why },
 }
 
 // A volume on which nothing was played, as it was handed in, and why.
@@ -52,8 +55,9 @@ struct Unplayed<V: Volume> {
 }
 
 // Reads a script.
-fn read_input<S: Source>(alloc: Global, input: &mut S) -> Result<Scripts, PlayRefusal>
-    ensures script { IfOk result (λ scripts. (bytes : List ℕ) × Reads (S.left input.old) (S.left input.new) bytes × IsScript bytes scripts) }
+fn read_input<S: Source>(alloc: Global, input: &mut S) -> Result<Work2, PlayRefusal>
+    ensures script { IfOk result (λ work. (bytes : List ℕ) × Reads (S.left input.old) (S.left input.new) bytes × IsScript bytes work.scripts work.picks) }
+    ensures players { IfOk result (λ work. All (λ (pick : Pick). pick.who ≤ length work.scripts) work.picks) }
     ensures why { IfErr result (λ why. HasReason why (S.left input.old) (S.left input.new) (S.failures input.old) (S.failures input.new)) }
     ensures later { S.failures input.old ≤ S.failures input.new }
 {
@@ -64,9 +68,9 @@ fn read_input<S: Source>(alloc: Global, input: &mut S) -> Result<Scripts, PlayRe
         Err(ReadRefusal::Long) => return Err(PlayRefusal::Long),
     };
     match read_script(alloc, &bytes) {
-        Ok(scripts) => Ok(scripts),
+        Ok(work) => Ok(work),
         Err(ScriptRefusal::Memory) => Err(PlayRefusal::Memory),
-        Err(ScriptRefusal::Unbuilt) => Err(PlayRefusal::Unbuilt),
+        Err(ScriptRefusal::Refused { line, why }) => Err(PlayRefusal::Script { line, why }),
     }
 }
 
@@ -84,15 +88,17 @@ fn data_file() -> Name
     Name::read(b"shop_data").unwrap()
 }
 
-// Runs scripts over a new source of 256 pages.
+// Runs scripts over a new source of 256 pages, by their schedule and then to the end.
 fn run_scripts<V: Volume>(
     alloc: Global,
     volume: V,
-    scripts: Scripts,
+    work: Work2,
 ) -> Result<Closed<V>, OpenRefused<V>>
     requires out { (n : List ℕ) → finset.contains (V.out volume) n ≡ false }
-    ensures legal { IfOk result (λ c. IsTrue (V.tells volume) → Legal (fresh (names_of (V.folder volume))) scripts c.book) }
-    ensures complete { IfOk result (λ c. Complete scripts c.book) }
+    requires players { All (λ (pick : Pick). pick.who ≤ length work.scripts) work.picks }
+    ensures legal { IfOk result (λ c. IsTrue (V.tells volume) → Legal (fresh (names_of (V.folder volume))) work.scripts c.book) }
+    ensures complete { IfOk result (λ c. Complete work.scripts c.book) }
+    ensures order { IfOk result (λ c. IsInOrder work.scripts work.picks c.book) }
     ensures out { IfOk result (λ c. (n : List ℕ) → finset.contains (V.out c.volume) n ≡ false) }
     ensures tells { IfOk result (λ c. V.tells c.volume ≡ V.tells volume) }
     ensures later { IfOk result (λ c. V.failures volume ≤ V.failures c.volume) }
@@ -101,8 +107,10 @@ fn run_scripts<V: Volume>(
     ensures blame { IfOk result (λ c. list_any is_turn c.book ≡ true → Rose (V.file_failures volume) (V.file_failures c.volume)) }
     ensures refused { IfErr result (λ r. r.volume ≡ volume) }
 {
+    let Work2 { scripts, picks } = work;
     match Engine::fresh(alloc, volume, &source(), &data_file(), 256, scripts) {
         Ok(mut engine) => {
+            engine.run(alloc, picks.as_slice());
             engine.finish(alloc);
             Ok(engine.close())
         }
@@ -129,7 +137,7 @@ fn play<V: Volume, S: Source>(
     ensures later { S.failures input.old ≤ S.failures input.new }
 {
     match read_input(alloc, input) {
-        Ok(scripts) => match run_scripts(alloc, volume, scripts) {
+        Ok(work) => match run_scripts(alloc, volume, work) {
             Ok(closed) => Ok(closed),
             Err(OpenRefused { volume }) => Err(Unplayed {
                 volume,
@@ -202,20 +210,30 @@ fn told_status<K: Sink>(alloc: Global, out: &mut K, book: &Book, end: &CloseEnd)
     }
 }
 
+// Writes the line that names a refused line of a script, and answers the status.
+fn script_status<K: Sink>(alloc: Global, out: &mut K, line: u32, why: Why) -> u8
+    ensures { WritesLine (script_line line why) result (K.taken out.old) (K.taken out.new) (K.failures out.old) (K.failures out.new) }
+{
+    match script_line(alloc, line, why) {
+        Ok(text) => written(out, &text, 2),
+        Err(_) => 4,
+    }
+}
+
 // Writes the line of a refusal, if it has one, and answers the status.
-fn refused_status<K: Sink>(out: &mut K, refusal: PlayRefusal) -> u8
+fn refused_status<K: Sink>(alloc: Global, out: &mut K, refusal: PlayRefusal) -> u8
     ensures { Answers refusal result (K.taken out.old) (K.taken out.new) (K.failures out.old) (K.failures out.new) }
 {
     match refusal {
         PlayRefusal::Source => 5,
         PlayRefusal::Memory => 4,
         PlayRefusal::Long => written(out, b"refused: script long\n", 2),
-        PlayRefusal::Unbuilt => written(out, b"refused: script unbuilt\n", 2),
+        PlayRefusal::Script { line, why } => script_status(alloc, out, line, why),
     }
 }
 
 /// Serves a command, and always returns. The one command is `play`: it reads a script to the end of the input, runs it
-/// over a new source `shop` with sparse files on the volume, puts the files back, and writes the history. No file of
+/// by its schedule over a new source `shop` with sparse files on the volume, puts the files back, and writes the history. No file of
 /// the volume may be out, and none is afterwards. The status is 0 where all was done and written; 2 where the words are
 /// no command or the bytes are no script, with one line that says so; 3 where the sink failed; 4 for want of memory; 5
 /// where the source failed; 7 where the volume failed to put a file back, with a line behind the history that names it.
@@ -231,8 +249,8 @@ pub fn still<V: Volume, S: Source, K: Sink>(
     // There is no other status.
     ensures status { (result.status ≡ 0) ⊎ ((result.status ≡ 2) ⊎ ((result.status ≡ 3) ⊎ ((result.status ≡ 4) ⊎ ((result.status ≡ 5) ⊎ (result.status ≡ 7))))) }
 
-    // The book is empty and the volume as before, or the book is one complete history of the script that was read, and
-    // a legal one where the volume tells.
+    // The book is empty and the volume as before, or the book is one complete history of the script that was read, in
+    // the order of its schedule, and a legal one where the volume tells.
     ensures history { ((result.book ≡ []) × (result.volume ≡ volume))
         ⊎ Tells (V.tells volume) (names_of (V.folder volume)) (S.left input.old) (S.left input.new) result.book }
 
@@ -292,7 +310,7 @@ pub fn still<V: Volume, S: Source, K: Sink>(
             book,
         },
         Err(Unplayed { volume, why }) => Ended {
-            status: refused_status(out, why),
+            status: refused_status(alloc, out, why),
             volume,
             book: Book::new(alloc),
         },

@@ -1,4 +1,0 @@
-:session 1
-USE shop
-GO
-USE shop
