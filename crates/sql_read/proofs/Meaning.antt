@@ -2,22 +2,22 @@
 use Rattle.std.proofs.Common.{◌≡◌, ℕ, ◌+◌, Bool, true, false, cond, List, [], ◌∷◌, ◌++◌, length, arith, ap, sym, ◌∙◌, refl, subst, Option, append_assoc, inl, inr, ◌⊎◌}
 use Rattle.std.specs.Prelude.{ℤ, pos, Some, None, nat_le, ◌&&◌, ◌==◌, flat_map, codes}
 use Rattle.page_base.specs.FileName.{IsFileName, last_part}
-use Rattle.sql_read.specs.declared.context_word.ContextWord.{ContextWord}
-use Rattle.sql_read.specs.declared.context_word.ContextWord.TheVariants as place
+use Rattle.sql_lex.specs.declared.context_word.ContextWord.{ContextWord}
+use Rattle.sql_lex.specs.declared.context_word.ContextWord.TheVariants as place
 use Rattle.std.proofs.lemmas.Slice.Eq.{bytes_eq-Decides}
 use Rattle.plain_model.specs.declared.stmt.Stmt.{Stmt}
-use Rattle.sql_read.specs.declared.keyword.Keyword.{Keyword}
-use Rattle.sql_read.specs.declared.keyword.Keyword.TheVariants as word
-use Rattle.sql_read.specs.declared.token.Mark.{Mark}
-use Rattle.sql_read.specs.declared.token.Mark.TheVariants as mark
-use Rattle.sql_read.specs.declared.token.TokenKind.{TokenKind}
-use Rattle.sql_read.specs.declared.token.TokenKind.TheVariants as kind
-use Rattle.sql_read.specs.declared.token.TokenKind.TheVariants.{Named, Number, Text, End}
-use Rattle.sql_read.specs.Words.{text_of, is_same, keyword_of, letters_of}
-use Rattle.sql_read.specs.Texts.{quoted}
-use Rattle.sql_read.proofs.WordLemmas.{keyword_found, keyword_spelled, name_spelled, word_spelled}
-use Rattle.sql_read.proofs.FileLemmas.{is_file_name_is, short_file_name}
-use Rattle.sql_read.specs.Tokens.{byte_of, Spells}
+use Rattle.sql_lex.specs.declared.keyword.Keyword.{Keyword}
+use Rattle.sql_lex.specs.declared.keyword.Keyword.TheVariants as word
+use Rattle.sql_lex.specs.declared.token.Mark.{Mark}
+use Rattle.sql_lex.specs.declared.token.Mark.TheVariants as mark
+use Rattle.sql_lex.specs.declared.token.TokenKind.{TokenKind}
+use Rattle.sql_lex.specs.declared.token.TokenKind.TheVariants as kind
+use Rattle.sql_lex.specs.declared.token.TokenKind.TheVariants.{Named, Number, Text, End}
+use Rattle.sql_lex.specs.Words.{text_of, is_same, keyword_of, letters_of}
+use Rattle.sql_lex.specs.Texts.{quoted}
+use Rattle.sql_lex.proofs.WordLemmas.{keyword_found, keyword_spelled, name_spelled, word_spelled}
+use Rattle.sql_lex.proofs.FileLemmas.{is_file_name_is, short_file_name}
+use Rattle.sql_lex.specs.Tokens.{byte_of, Spells}
 use Rattle.sql_read.proofs.Writing.{AreSpelled, spelled_both}
 use Rattle.sql_read.specs.Grammar.{IsStmt, use_database, create_table, create_snap, insert_row, update_rows, select_all, AreStmts, MayHave, FileText, AreFiles, file_tokens, more_file, more_number, more_column}
 use Rattle.sql_read.specs.Table.{Symbol, Key, Word, Sign, AnyName, AnyNumber, AnyPath, Part, MoreNumbers, MoreColumns, MoreFiles, Created, MoreStmts, Finish, is_key, is_word, is_mark, is_name, is_number, is_path, is_end, table_rest, file_symbols, snap_rest, insert_rest, update_rest, select_rest, feed, start}

@@ -3,16 +3,16 @@ use Rattle.std.proofs.Common.{◌≡◌, ℕ, List, ◌∷◌, Option, Result, E
 use Rattle.std.specs.Prelude.{Some, None}
 use Rattle.std.specs.Option.{SomeIff}
 use Rattle.page_base.specs.FileName.{IsFileName, last_part}
-use Rattle.sql_read.specs.declared.token.Token.{Token}
-use Rattle.sql_read.specs.declared.token.TokenKind.{TokenKind}
-use Rattle.sql_read.specs.declared.token.TokenKind.TheVariants.{Text}
-use Rattle.sql_read.specs.declared.refusal.ParseRefusal.{ParseRefusal}
-use Rattle.sql_read.specs.declared.refusal.ParseRefusal.TheVariants.{Syntax, Memory}
-use Rattle.sql_read.specs.Tokens.{token}
-use Rattle.sql_read.specs.Cut.{behind}
+use Rattle.sql_lex.specs.declared.token.Token.{Token}
+use Rattle.sql_lex.specs.declared.token.TokenKind.{TokenKind}
+use Rattle.sql_lex.specs.declared.token.TokenKind.TheVariants.{Text}
+use Rattle.sql_lex.specs.declared.refusal.ParseRefusal.{ParseRefusal}
+use Rattle.sql_lex.specs.declared.refusal.ParseRefusal.TheVariants.{Syntax, Memory}
+use Rattle.sql_lex.specs.Tokens.{token}
+use Rattle.sql_lex.specs.Cut.{behind}
 use Rattle.sql_read.specs.Table.{Symbol, AnyPath, Verdict, run}
 use Rattle.sql_read.specs.Steps.{Passes, FailsTo, IsPathOf}
-use Rattle.sql_read.proofs.FileLemmas.{file_name_passes, file_name_fails}
+use Rattle.sql_lex.proofs.FileLemmas.{file_name_passes, file_name_fails}
 
 fails_before : (e : ParseRefusal) (a b : Verdict) → a ≡ b → FailsTo e b → FailsTo e a
 fails_before Memory a b same h = tt

@@ -4,29 +4,29 @@ use Rattle.std.specs.Prelude.{Some, None, nat_le, ◌&&◌, Result, Err, IfErr}
 use Rattle.page_base.specs.FileName.{IsFileName, last_part}
 use Rattle.std.proofs.lemmas.Bool.{le-leb, lt-leb, leb-true, cases_lt}
 use Rattle.plain_model.specs.declared.stmt.Stmt.{Stmt}
-use Rattle.sql_read.specs.declared.context_word.ContextWord.TheVariants as place
-use Rattle.sql_read.specs.declared.keyword.Keyword.TheVariants as word
-use Rattle.sql_read.specs.declared.token.Mark.TheVariants as mark
-use Rattle.sql_read.specs.declared.token.Token.{Token}
-use Rattle.sql_read.specs.declared.token.TokenKind.{TokenKind}
-use Rattle.sql_read.specs.declared.token.TokenKind.TheVariants as kind
-use Rattle.sql_read.specs.declared.token.TokenKind.TheVariants.{Text}
-use Rattle.sql_read.specs.Tokens.{Lexes, kinds, Spells}
-use Rattle.sql_read.specs.Cut.{tokens_from}
+use Rattle.sql_lex.specs.declared.context_word.ContextWord.TheVariants as place
+use Rattle.sql_lex.specs.declared.keyword.Keyword.TheVariants as word
+use Rattle.sql_lex.specs.declared.token.Mark.TheVariants as mark
+use Rattle.sql_lex.specs.declared.token.Token.{Token}
+use Rattle.sql_lex.specs.declared.token.TokenKind.{TokenKind}
+use Rattle.sql_lex.specs.declared.token.TokenKind.TheVariants as kind
+use Rattle.sql_lex.specs.declared.token.TokenKind.TheVariants.{Text}
+use Rattle.sql_lex.specs.Tokens.{Lexes, kinds, Spells}
+use Rattle.sql_lex.specs.Cut.{tokens_from}
 use Rattle.sql_read.specs.Grammar.{IsBatch}
 use Rattle.sql_read.specs.Place.{Begins, IsNoFile, IsWrong, IsRefusedAt, IsRefusal}
-use Rattle.sql_read.specs.declared.refusal.ParseRefusal.{ParseRefusal}
-use Rattle.sql_read.specs.declared.refusal.ParseRefusal.TheVariants.{Syntax, Memory}
+use Rattle.sql_lex.specs.declared.refusal.ParseRefusal.{ParseRefusal}
+use Rattle.sql_lex.specs.declared.refusal.ParseRefusal.TheVariants.{Syntax, Memory}
 use Rattle.sql_read.specs.Steps.{FailsTo}
 use Rattle.sql_read.specs.Table.{Symbol, Key, Word, Sign, AnyName, AnyNumber, AnyPath, Part, MoreNumbers, MoreColumns, MoreFiles, Created, MoreStmts, Finish, file_symbols, insert_rest, update_rest, select_rest, feed, start, run, onward, Verdict, Stops, is_mark, is_key, is_word, is_name, is_number, is_path, is_file_name, is_end}
 use Rattle.std.proofs.lemmas.List.{map-append}
-use Rattle.sql_read.proofs.CuttingLaws.{cut_lexes, lexes_cut}
+use Rattle.sql_lex.proofs.CuttingLaws.{cut_lexes, lexes_cut}
 use Rattle.sql_read.proofs.Reaching.{and_then, steps, steps_append, steps_stmts}
 use Rattle.sql_read.proofs.Writing.{AreSpelled, AreCut, spelled_front, spelled_both, write_stmts, cut_kinds}
-use Rattle.sql_read.specs.Texts.{quoted}
-use Rattle.sql_read.proofs.FileLemmas.{file_name_passes, file_name_printable, last_part-name}
+use Rattle.sql_lex.specs.Texts.{quoted}
+use Rattle.sql_lex.proofs.FileLemmas.{file_name_passes, file_name_printable, last_part-name}
 use Rattle.sql_read.proofs.Meaning.{Means, IsOpen, TextOf, step_back, complete, means_batch, passed, either, not_full, mark_is, path_is}
-use Rattle.sql_read.proofs.BoolLemmas.{clash}
+use Rattle.sql_lex.proofs.BoolLemmas.{clash}
 
 -- a part too many comes next
 abbrev pub is_full : List Symbol → Bool

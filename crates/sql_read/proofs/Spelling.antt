@@ -13,15 +13,15 @@ use Rattle.plain_model.specs.declared.expr.Expr.{Expr}
 use Rattle.plain_model.specs.declared.stmt.Stmt.TheVariants.{UseDb, CreateTable, CreateSnap, Insert, Update, Select}
 use Rattle.plain_model.specs.declared.stmt.SnapFile.{SnapFile}
 use Rattle.plain_model.specs.declared.stmt.Items.TheVariants as items
-use Rattle.sql_read.specs.declared.keyword.Keyword.TheVariants as word
-use Rattle.sql_read.specs.declared.token.Mark.TheVariants as mark
-use Rattle.sql_read.specs.declared.token.Token.{Token}
-use Rattle.sql_read.specs.declared.token.TokenKind.{TokenKind}
-use Rattle.sql_read.specs.declared.token.TokenKind.TheVariants.{Key, Named, Number, Mark}
-use Rattle.sql_read.specs.declared.context_word.ContextWord.TheVariants as place
-use Rattle.sql_read.specs.Words.{letters_of}
+use Rattle.sql_lex.specs.declared.keyword.Keyword.TheVariants as word
+use Rattle.sql_lex.specs.declared.token.Mark.TheVariants as mark
+use Rattle.sql_lex.specs.declared.token.Token.{Token}
+use Rattle.sql_lex.specs.declared.token.TokenKind.{TokenKind}
+use Rattle.sql_lex.specs.declared.token.TokenKind.TheVariants.{Key, Named, Number, Mark}
+use Rattle.sql_lex.specs.declared.context_word.ContextWord.TheVariants as place
+use Rattle.sql_lex.specs.Words.{letters_of}
 use Rattle.page_base.specs.FileName.{IsFileName, last_part}
-use Rattle.sql_read.specs.Tokens.{token}
+use Rattle.sql_lex.specs.Tokens.{token}
 use Rattle.sql_read.specs.Grammar.{use_database, create_table, create_snap, insert_row, update_rows, select_all, FileText, AreFiles, file_tokens, more_file, file_of, more_number, more_column, key_column, plain_column, without_twins}
 use Rattle.sql_read.specs.Table as symbol
 use Rattle.sql_read.specs.Table.{Symbol, AnyName, AnyNumber, Part, MoreNumbers, MoreColumns, MoreFiles, Created, file_symbols, table_rest, is_mark, is_key, is_end, start, select_rest, run, onward}

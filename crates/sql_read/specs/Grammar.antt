@@ -10,14 +10,14 @@ use Rattle.plain_model.specs.declared.stmt.SnapFile.{SnapFile}
 use Rattle.plain_model.specs.declared.stmt.Stmt.TheVariants.{UseDb, CreateTable, CreateSnap, Insert, Select, Update}
 use Rattle.plain_model.specs.declared.stmt.Items.TheVariants as items
 use Rattle.plain_model.specs.Sound.{are_distinct}
-use Rattle.sql_read.specs.declared.context_word.ContextWord.TheVariants as place
-use Rattle.sql_read.specs.declared.keyword.Keyword.TheVariants as word
-use Rattle.sql_read.specs.declared.token.Mark.TheVariants as mark
-use Rattle.sql_read.specs.declared.token.Token.{Token}
-use Rattle.sql_read.specs.declared.token.TokenKind.{TokenKind}
-use Rattle.sql_read.specs.declared.token.TokenKind.TheVariants.{Key, Named, Number, Text, Mark, End}
-use Rattle.sql_read.specs.Words.{letters_of}
-use Rattle.sql_read.specs.Tokens.{Lexes, kinds}
+use Rattle.sql_lex.specs.declared.context_word.ContextWord.TheVariants as place
+use Rattle.sql_lex.specs.declared.keyword.Keyword.TheVariants as word
+use Rattle.sql_lex.specs.declared.token.Mark.TheVariants as mark
+use Rattle.sql_lex.specs.declared.token.Token.{Token}
+use Rattle.sql_lex.specs.declared.token.TokenKind.{TokenKind}
+use Rattle.sql_lex.specs.declared.token.TokenKind.TheVariants.{Key, Named, Number, Text, Mark, End}
+use Rattle.sql_lex.specs.Words.{letters_of}
+use Rattle.sql_lex.specs.Tokens.{Lexes, kinds}
 
 -- , number
 abbrev pub more_number : ℤ → List TokenKind

@@ -3,17 +3,17 @@ use Rattle.std.specs.Prelude.{ℕ, ◌+◌, ◌==◌, nat_le, Bool, true, false,
 use Rattle.std.specs.List.{list_all}
 use Rattle.std.specs.Str.{bytes_eq}
 use Rattle.page_base.specs.FileName.{is_file_name_byte, last_part}
-use Rattle.sql_read.specs.declared.context_word.ContextWord.{ContextWord}
-use Rattle.sql_read.specs.declared.context_word.ContextWord.TheVariants as place
-use Rattle.sql_read.specs.declared.keyword.Keyword.{Keyword}
-use Rattle.sql_read.specs.declared.keyword.Keyword.TheVariants as word
-use Rattle.sql_read.specs.declared.token.Mark.{Mark}
-use Rattle.sql_read.specs.declared.token.Mark.TheVariants as mark
-use Rattle.sql_read.specs.declared.token.Token.{Token}
-use Rattle.sql_read.specs.declared.token.TokenKind.{TokenKind}
-use Rattle.sql_read.specs.declared.token.TokenKind.TheVariants as kind
-use Rattle.sql_read.specs.Words.{is_same, letters_of}
-use Rattle.sql_read.specs.Tokens.{byte_of}
+use Rattle.sql_lex.specs.declared.context_word.ContextWord.{ContextWord}
+use Rattle.sql_lex.specs.declared.context_word.ContextWord.TheVariants as place
+use Rattle.sql_lex.specs.declared.keyword.Keyword.{Keyword}
+use Rattle.sql_lex.specs.declared.keyword.Keyword.TheVariants as word
+use Rattle.sql_lex.specs.declared.token.Mark.{Mark}
+use Rattle.sql_lex.specs.declared.token.Mark.TheVariants as mark
+use Rattle.sql_lex.specs.declared.token.Token.{Token}
+use Rattle.sql_lex.specs.declared.token.TokenKind.{TokenKind}
+use Rattle.sql_lex.specs.declared.token.TokenKind.TheVariants as kind
+use Rattle.sql_lex.specs.Words.{is_same, letters_of}
+use Rattle.sql_lex.specs.Tokens.{byte_of}
 
 -- what may come next
 pub data Symbol : Type 0 where
@@ -47,7 +47,7 @@ is_word wanted _ = false
 
 -- whether it is this mark
 abbrev pub is_mark : Mark → TokenKind → Bool
-is_mark wanted (kind.Mark found) = byte_of found == byte_of wanted
+is_mark wanted (kind.Mark found) = mark_eq found wanted
 is_mark wanted _ = false
 
 -- whether it is a name
@@ -60,19 +60,10 @@ abbrev pub is_number : TokenKind → Bool
 is_number (kind.Number n) = true
 is_number _ = false
 
--- whether these bytes are a name of a file
-abbrev pub is_file_name : List ℕ → Bool
-is_file_name bytes = (nat_le 1 (length bytes) && nat_le (length bytes) 128) && (not (slice_index bytes 0 == 46) && list_all is_file_name_byte bytes)
-
 -- whether it is a text, and ends with a name of a file where this is limited
 abbrev pub is_path : Bool → TokenKind → Bool
 is_path limited (kind.Text text) = not limited || is_file_name (last_part text)
 is_path limited _ = false
-
--- whether it is the end
-abbrev pub is_end : TokenKind → Bool
-is_end kind.End = true
-is_end _ = false
 
 -- behind CREATE TABLE
 abbrev pub table_rest : List Symbol

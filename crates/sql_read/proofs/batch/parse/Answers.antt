@@ -1,7 +1,7 @@
 use Rattle.std.proofs.Common.{[], ◌∷◌, ap, ◌∙◌, append_assoc, append-nil}
-use Rattle.sql_read.specs.Cut.{tokens_from}
-use Rattle.sql_read.specs.Tokens.{kinds}
-use Rattle.sql_read.proofs.CuttingLaws.{cut_lexes}
+use Rattle.sql_lex.specs.Cut.{tokens_from}
+use Rattle.sql_lex.specs.Tokens.{kinds}
+use Rattle.sql_lex.proofs.CuttingLaws.{cut_lexes}
 use Rattle.std.proofs.lemmas.Result.{err_from_is_err_and}
 use Rattle.sql_read.proofs.Refusing.{refused_exit}
 use Rattle.sql_read.proofs.Soundness.{sound_stmt}

@@ -1,10 +1,10 @@
 use Rattle.std.proofs.Common.{◌≡◌, List, ◌++◌, length, true}
 use Rattle.plain_model.specs.declared.stmt.Stmt.{Stmt}
 use Rattle.sql_read.specs.Ahead.{left}
-use Rattle.sql_read.specs.Cut.{tokens_from}
+use Rattle.sql_lex.specs.Cut.{tokens_from}
 use Rattle.sql_read.specs.Grammar.{AreStmts}
 use Rattle.sql_read.specs.Table.{start, run}
-use Rattle.sql_read.specs.Tokens.{kinds}
+use Rattle.sql_lex.specs.Tokens.{kinds}
 use Rattle.sql_read.proofs.batch.parse.Given as goal
 
 abbrev pub invariant-loop-parser : goal.invariant-loop-parser

@@ -1,7 +1,7 @@
 use Rattle.std.proofs.Common.{◌∷◌, ◌+◌, length, ◌∙◌}
 use Rattle.sql_read.specs.Ahead.{left}
-use Rattle.sql_read.specs.Tokens.{kinds}
-use Rattle.sql_read.specs.declared.keyword.Keyword.TheVariants.{Int}
+use Rattle.sql_lex.specs.Tokens.{kinds}
+use Rattle.sql_lex.specs.declared.keyword.Keyword.TheVariants.{Int}
 use Rattle.sql_read.specs.Table.{AnyName, Key, MoreColumns}
 use Rattle.sql_read.proofs.Spelling.{column_more, columns_on}
 use Rattle.sql_read.proofs.parser.Parser.columns.Goals as goal

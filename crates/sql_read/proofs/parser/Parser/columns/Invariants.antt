@@ -1,7 +1,7 @@
 use Rattle.std.proofs.Common.{◌≡◌, List, ◌∷◌, length, true}
-use Rattle.sql_read.specs.declared.keyword.Keyword.TheVariants as word
+use Rattle.sql_lex.specs.declared.keyword.Keyword.TheVariants as word
 use Rattle.sql_read.specs.Ahead.{left}
-use Rattle.sql_read.specs.Tokens.{kinds}
+use Rattle.sql_lex.specs.Tokens.{kinds}
 use Rattle.sql_read.specs.Table.{Symbol, Key, AnyName, MoreColumns, run}
 use Rattle.sql_read.specs.Steps.{ReadsColumns}
 use Rattle.sql_read.proofs.parser.Parser.columns.Given as goal

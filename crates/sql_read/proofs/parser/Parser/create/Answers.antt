@@ -1,6 +1,6 @@
 use Rattle.std.proofs.Common.{◌∷◌, ◌++◌, ◌∙◌, sym, ap, true}
 use Rattle.std.proofs.lemmas.Result.{err_from_is_err_and}
-use Rattle.sql_read.specs.declared.keyword.Keyword.TheVariants as word
+use Rattle.sql_lex.specs.declared.keyword.Keyword.TheVariants as word
 use Rattle.sql_read.specs.Table.{Key, table_rest, run}
 use Rattle.sql_read.proofs.Passing.{err_exit}
 use Rattle.sql_read.proofs.Spelling.{created_table}

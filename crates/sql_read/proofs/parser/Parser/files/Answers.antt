@@ -1,6 +1,6 @@
 use Rattle.std.proofs.Common.{◌∷◌, ◌+◌, ◌++◌, length, ◌∙◌}
 use Rattle.sql_read.specs.Ahead.{left}
-use Rattle.sql_read.specs.Tokens.{kinds}
+use Rattle.sql_lex.specs.Tokens.{kinds}
 use Rattle.sql_read.specs.Table.{MoreFiles, file_symbols}
 use Rattle.sql_read.proofs.Spelling.{file_more, files_on}
 use Rattle.sql_read.proofs.parser.Parser.files.Goals as goal

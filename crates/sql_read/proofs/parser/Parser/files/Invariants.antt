@@ -1,6 +1,6 @@
 use Rattle.std.proofs.Common.{◌≡◌, List, ◌∷◌, ◌++◌, length, true}
 use Rattle.sql_read.specs.Ahead.{left}
-use Rattle.sql_read.specs.Tokens.{kinds}
+use Rattle.sql_lex.specs.Tokens.{kinds}
 use Rattle.sql_read.specs.Table.{Symbol, MoreFiles, file_symbols, run}
 use Rattle.sql_read.specs.Steps.{ReadsFiles}
 use Rattle.sql_read.proofs.parser.Parser.files.Given as goal

@@ -1,6 +1,6 @@
 use Rattle.std.proofs.Common.{◌∷◌, ◌+◌, length, ◌∙◌}
 use Rattle.sql_read.specs.Ahead.{left}
-use Rattle.sql_read.specs.Tokens.{kinds}
+use Rattle.sql_lex.specs.Tokens.{kinds}
 use Rattle.sql_read.specs.Table.{AnyNumber, MoreNumbers}
 use Rattle.sql_read.proofs.Spelling.{number_more, numbers_on}
 use Rattle.sql_read.proofs.parser.Parser.numbers.Goals as goal

@@ -1,6 +1,6 @@
 use Rattle.std.proofs.Common.{◌≡◌, List, ◌∷◌, length, true}
 use Rattle.sql_read.specs.Ahead.{left}
-use Rattle.sql_read.specs.Tokens.{kinds}
+use Rattle.sql_lex.specs.Tokens.{kinds}
 use Rattle.sql_read.specs.Table.{Symbol, AnyNumber, MoreNumbers, run}
 use Rattle.sql_read.specs.Steps.{ReadsNumbers}
 use Rattle.sql_read.proofs.parser.Parser.numbers.Given as goal

@@ -1,6 +1,6 @@
 use Rattle.std.proofs.Common.{◌∙◌, ap, sym, true}
 use Rattle.sql_read.specs.Ahead.{left}
-use Rattle.sql_read.specs.Cut.{tokens_from}
+use Rattle.sql_lex.specs.Cut.{tokens_from}
 use Rattle.sql_read.specs.Table.{run}
 use Rattle.sql_read.proofs.Passing.{path_passes}
 use Rattle.sql_read.proofs.parser.Parser.path.Goals as goal

@@ -1,0 +1,6 @@
+pub mod Words
+pub mod Texts
+pub mod Tokens
+pub mod Cut
+pub mod Ahead
+pub mod Laws
