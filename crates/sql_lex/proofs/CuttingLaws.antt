@@ -259,3 +259,7 @@ lexes_cut at bs ts (unclosed from rest us never h) = ap (λ (vs : List Token). t
 pub one_cutting : (batch : List ℕ) → HasOneCutting batch
 unfolding tokens_from
 one_cutting batch = (cut 0 0 batch, cut_lexes batch, (λ us h. lexes_cut 0 batch us h))
+
+-- the tokens of a batch are one list
+pub one_list : (batch : List ℕ) (ts us : List Token) → Lexes 0 batch ts → Lexes 0 batch us → ts ≡ us
+one_list batch ts us h i = lexes_cut 0 batch ts h ∙ sym (lexes_cut 0 batch us i)

@@ -10,7 +10,9 @@ use Rattle.sql_lex.specs.declared.keyword.Keyword.TheVariants.{And, As, Asc, Beg
 use Rattle.sql_lex.specs.declared.token.TokenKind.TheVariants as kind
 use Rattle.sql_lex.specs.declared.context_word.ContextWord.{ContextWord}
 use Rattle.sql_lex.specs.declared.context_word.ContextWord.TheVariants as place
-use Rattle.sql_lex.specs.Words.{text_of, keywords, keyword_of, letters_of}
+use Rattle.sql_lex.specs.declared.token.Mark.{Mark}
+use Rattle.sql_lex.specs.declared.token.Mark.TheVariants as mark
+use Rattle.sql_lex.specs.Words.{text_of, keywords, keyword_of, letters_of, is_same_mark}
 use Rattle.sql_lex.specs.Tokens.{Spells}
 use Rattle.sql_lex.specs.Cut.{IsWord}
 use Rattle.sql_lex.proofs.Lexing.{word_is_name}
@@ -147,3 +149,21 @@ word_spelled place.LockTimeout = name_spelled (codes "lock_timeout") ((refl, ref
 word_spelled place.Name = name_spelled (codes "name") ((refl, refl, refl), refl, refl) refl
 word_spelled place.Snapshot = name_spelled (codes "snapshot") ((refl, refl, refl), refl, refl) refl
 word_spelled place.Work = name_spelled (codes "work") ((refl, refl, refl), refl, refl) refl
+
+-- marks of the same signs are one
+pub same_mark : (a b : Mark) → is_same_mark a b ≡ true → a ≡ b
+same_mark mark.Open mark.Open h = refl
+same_mark mark.Close mark.Close h = refl
+same_mark mark.Comma mark.Comma h = refl
+same_mark mark.Semicolon mark.Semicolon h = refl
+same_mark mark.Dot mark.Dot h = refl
+same_mark mark.Star mark.Star h = refl
+same_mark mark.Plus mark.Plus h = refl
+same_mark mark.Minus mark.Minus h = refl
+same_mark mark.Equal mark.Equal h = refl
+same_mark mark.NotEqual mark.NotEqual h = refl
+same_mark mark.Less mark.Less h = refl
+same_mark mark.AtMost mark.AtMost h = refl
+same_mark mark.Greater mark.Greater h = refl
+same_mark mark.AtLeast mark.AtLeast h = refl
+same_mark _ _ h = cc

@@ -1,10 +1,10 @@
 //! The tokens that are left of a batch, made one at a time, the first of them read ahead.
 
-ghost use Rattle.std.specs.Prelude.{◌≡◌, ◌<◌, ◌∷◌, false, length};
+ghost use Rattle.std.specs.Prelude.{◌≡◌, ◌<◌, ◌∷◌, [], false, length, IsTrue};
 ghost use Rattle.sql_lex.specs.Tokens.{Lexes};
 ghost use Rattle.sql_lex.specs.Ahead.{first_of, behind_first, is_over};
 
-use crate::Token;
+use crate::{Token, TokenKind};
 use crate::lexer::token_from;
 use std::marker::Model;
 
@@ -44,6 +44,17 @@ impl<'t> Tokens<'t> {
         ensures { self.now ≡ result.now ∷ behind_first self.now }
     {
         &self.first
+    }
+
+    /// Whether the end alone is left.
+    pub fn is_at_end(&self) -> bool
+        ensures test { result ≡ is_over self.now }
+        ensures last { IsTrue result → self.now ≡ first_of self.now ∷ [] }
+    {
+        match &self.first.kind {
+            TokenKind::End => true,
+            _ => false,
+        }
     }
 
     /// Goes on to the token behind.

@@ -14,7 +14,7 @@ use Rattle.sql_lex.specs.Tokens.{kinds}
 use Rattle.sql_read.specs.Grammar.{IsStmt, use_database, create_table, create_snap, insert_row, update_rows, select_all, AreStmts, FileText, AreFiles, more_file, more_number, more_column}
 use Rattle.sql_read.specs.Place.{Begins, IsFull, IsWrong}
 use Rattle.sql_read.specs.Laws.{HasOneReading, HasOnePlace}
-use Rattle.sql_lex.proofs.CuttingLaws.{lexes_cut}
+use Rattle.sql_lex.proofs.CuttingLaws.{one_list}
 use Rattle.sql_lex.proofs.FileLemmas.{short_file_name}
 
 numbers_one : (ns ms : List ℤ) (rest more : List TokenKind) → flat_map more_number ns ++ Mark mark.Close ∷ rest ≡ flat_map more_number ms ++ Mark mark.Close ∷ more → (ns ≡ ms) × (rest ≡ more)
@@ -105,7 +105,7 @@ stmts_one limited ks (s ∷ ss) (u ∷ us) (front, rest, split, is, others) (aft
 
 pub one_reading : (batch : List ℕ) → HasOneReading batch
 one_reading batch = λ ss us h i.
-    let same : h.tokens ≡ i.tokens = lexes_cut 0 batch h.tokens h.lexes ∙ sym (lexes_cut 0 batch i.tokens i.lexes) in
+    let same : h.tokens ≡ i.tokens = one_list batch h.tokens i.tokens h.lexes i.lexes in
     stmts_one true (kinds h.tokens) ss us h.stmts_are (rw same i.stmts_are)
 
 -- where two splits of a list part

@@ -50,7 +50,7 @@ pub record FileText : Type 0 where
 
 -- ( NAME = name , FILENAME = text )
 abbrev pub file_tokens : FileText → List TokenKind
-file_tokens file = Mark mark.Open ∷ Named (letters_of place.Name) ∷ Mark mark.Equals ∷ Named file.logical ∷ Mark mark.Comma ∷ Named (letters_of place.Filename) ∷ Mark mark.Equals ∷ Text file.path ∷ Mark mark.Close ∷ []
+file_tokens file = Mark mark.Open ∷ Named (letters_of place.Name) ∷ Mark mark.Equal ∷ Named file.logical ∷ Mark mark.Comma ∷ Named (letters_of place.Filename) ∷ Mark mark.Equal ∷ Text file.path ∷ Mark mark.Close ∷ []
 
 -- , file
 abbrev pub more_file : FileText → List TokenKind
@@ -82,7 +82,7 @@ pub data IsStmt (limited : Bool) : List TokenKind → Stmt → Type 0 where
       → IsStmt limited (Key word.Insert ∷ Named name ∷ Key word.Values ∷ Mark mark.Open ∷ Number first ∷ (flat_map more_number others ++ Mark mark.Close ∷ []))
       (Insert (record { table = name; cols = []; rows = map (λ n. expr.Number n) (first ∷ others) ∷ [] }))
   -- UPDATE name SET name = number
-  update_rows : (name col : List ℕ) (n : ℤ) → IsStmt limited (Key word.Update ∷ Named name ∷ Key word.Set ∷ Named col ∷ Mark mark.Equals ∷ Number n ∷ [])
+  update_rows : (name col : List ℕ) (n : ℤ) → IsStmt limited (Key word.Update ∷ Named name ∷ Key word.Set ∷ Named col ∷ Mark mark.Equal ∷ Number n ∷ [])
       (Update (record { table = name; sets = record { col = col; to = expr.Number n } ∷ []; filter = None }))
   -- SELECT * FROM name
   select_all : (name : List ℕ) → IsStmt limited (Key word.Select ∷ Mark mark.Star ∷ Key word.From ∷ Named name ∷ [])

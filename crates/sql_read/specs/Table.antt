@@ -12,8 +12,9 @@ use Rattle.sql_lex.specs.declared.token.Mark.TheVariants as mark
 use Rattle.sql_lex.specs.declared.token.Token.{Token}
 use Rattle.sql_lex.specs.declared.token.TokenKind.{TokenKind}
 use Rattle.sql_lex.specs.declared.token.TokenKind.TheVariants as kind
-use Rattle.sql_lex.specs.Words.{is_same, letters_of}
-use Rattle.sql_lex.specs.Tokens.{byte_of}
+use Rattle.sql_lex.specs.Words.{is_same, is_same_mark, letters_of}
+use Rattle.sql_lex.specs.Tokens.{is_end}
+use Rattle.sql_lex.specs.Texts.{is_file_name}
 
 -- what may come next
 pub data Symbol : Type 0 where
@@ -47,7 +48,7 @@ is_word wanted _ = false
 
 -- whether it is this mark
 abbrev pub is_mark : Mark → TokenKind → Bool
-is_mark wanted (kind.Mark found) = mark_eq found wanted
+is_mark wanted (kind.Mark found) = is_same_mark found wanted
 is_mark wanted _ = false
 
 -- whether it is a name
@@ -71,7 +72,7 @@ table_rest = AnyName ∷ Sign mark.Open ∷ AnyName ∷ Key word.Int ∷ Key wor
 
 -- a file of a snapshot
 abbrev pub file_symbols : List Symbol
-file_symbols = Sign mark.Open ∷ Word place.Name ∷ Sign mark.Equals ∷ AnyName ∷ Sign mark.Comma ∷ Word place.Filename ∷ Sign mark.Equals ∷ AnyPath ∷ Sign mark.Close ∷ []
+file_symbols = Sign mark.Open ∷ Word place.Name ∷ Sign mark.Equal ∷ AnyName ∷ Sign mark.Comma ∷ Word place.Filename ∷ Sign mark.Equal ∷ AnyPath ∷ Sign mark.Close ∷ []
 
 -- behind CREATE DATABASE
 abbrev pub snap_rest : List Symbol
@@ -83,7 +84,7 @@ insert_rest = AnyName ∷ Key word.Values ∷ Sign mark.Open ∷ AnyNumber ∷ M
 
 -- behind UPDATE
 abbrev pub update_rest : List Symbol
-update_rest = AnyName ∷ Key word.Set ∷ AnyName ∷ Sign mark.Equals ∷ AnyNumber ∷ []
+update_rest = AnyName ∷ Key word.Set ∷ AnyName ∷ Sign mark.Equal ∷ AnyNumber ∷ []
 
 -- behind SELECT
 abbrev pub select_rest : List Symbol

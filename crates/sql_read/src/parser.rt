@@ -1,10 +1,10 @@
 //! Taking the next token of a batch where it is one that may stand there.
 
-ghost use Rattle.std.specs.Prelude.{◌≡◌, ◌<◌, ◌∷◌, length, true, List, IfOk};
+ghost use Rattle.std.specs.Prelude.{◌≡◌, ◌<◌, ◌∷◌, [], length, true, List, IfOk, IsTrue};
 ghost use Rattle.sql_lex.specs.declared.refusal.ParseRefusal.TheVariants.{Syntax};
 ghost use Rattle.sql_lex.specs.declared.token.TokenKind.TheVariants as kind;
 ghost use Rattle.sql_lex.specs.declared.token.Mark.TheVariants.{Comma};
-ghost use Rattle.sql_lex.specs.Ahead.{first_of, is_over};
+ghost use Rattle.sql_lex.specs.Ahead.{first_of, behind_first, is_over};
 ghost use Rattle.sql_lex.specs.Words.{letters_of};
 ghost use Rattle.sql_lex.specs.Tokens.{Lexes, kinds};
 ghost use Rattle.sql_read.specs.Table.{Symbol, Key, Word, Sign, AnyName, AnyNumber, AnyPath, Part, is_key, is_mark, run};
@@ -43,19 +43,18 @@ impl<'t> Parser<'t> {
 
     // The refusal at the next token.
     fn refused(&self) -> ParseRefusal
-        ensures { result ≡ Syntax (first_of self.now).at }
+        ensures at { result ≡ Syntax (first_of self.now).at }
+        ensures there { self.now ≡ first_of self.now ∷ behind_first self.now }
     {
         ParseRefusal::Syntax { at: self.tokens.next().at }
     }
 
     // Whether the next token is the end.
     pub(crate) fn is_at_end(&self) -> bool
-        ensures { result ≡ is_over self.now }
+        ensures test { result ≡ is_over self.now }
+        ensures last { IsTrue result → self.now ≡ first_of self.now ∷ [] }
     {
-        match &self.tokens.next().kind {
-            TokenKind::End => true,
-            _ => false,
-        }
+        self.tokens.is_at_end()
     }
 
     // Takes the reserved word.
