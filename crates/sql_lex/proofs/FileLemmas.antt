@@ -1,5 +1,5 @@
 -- Texts that end with the name of a file.
-use Rattle.std.proofs.Common.{◌≡◌, ℕ, suc, ◌<◌, Bool, true, false, cond, List, [], ◌∷◌, length, arith, ap, ◌∙◌, refl, subst, get_or, map}
+use Rattle.std.proofs.Common.{◌≡◌, ℕ, Bool, true, false, cond, List, [], ◌∷◌, length, arith, ap, ◌∙◌, refl, subst, get_or, map}
 use Rattle.std.specs.Prelude.{not, nat_le, ◌==◌, ◌&&◌, ◌||◌, codes, Result, Ok, Err}
 use Rattle.std.specs.Option.{SomeIff}
 use Rattle.std.specs.Result.{OkIff, result_ok}
@@ -11,11 +11,7 @@ use Rattle.page_base.specs.Name.{IsName, is_name_byte}
 use Rattle.std.specs.Char.{to_ascii_lowercase}
 use Rattle.sql_lex.proofs.BoolLemmas.{is_false, both_hold, not_byte, clash}
 use Rattle.sql_lex.specs.Texts.{is_quote, is_printable, doubled, is_file_name}
-use Rattle.sql_lex.proofs.Lexing.{each_passes}
-
-pub all_pass : (test : ℕ → Bool) (bs : List ℕ) → ((i d : ℕ) → i < length bs → test (get_or bs i d) ≡ true) → list_all test bs ≡ true
-all_pass test [] h = refl
-all_pass test (b ∷ bs) h = rw (h 0 0 (omega arith)) (all_pass test bs (λ i d within. h (suc i) d (omega (arith, within))))
+use Rattle.sql_lex.proofs.RunLemmas.{each_passes, all_pass}
 
 -- the test of the table is the form of a name of a file
 pub is_file_name_is : (bs : List ℕ) → is_file_name bs ≡ true → IsFileName bs

@@ -1,5 +1,5 @@
 -- The reserved word that some letters are.
-use Rattle.std.proofs.Common.{◌≡◌, ◌≢◌, ℕ, Bool, true, false, cond, List, [], ◌∷◌, refl, ap, sym, ◌∙◌, Option, length, map}
+use Rattle.std.proofs.Common.{◌≡◌, ◌≢◌, ℕ, Bool, true, false, cond, List, [], ◌∷◌, refl, ap, sym, ◌∙◌, Option, length, map, inl}
 use Rattle.std.specs.Prelude.{Some, None, find, nat_le, codes}
 use Rattle.std.specs.Char.{to_ascii_lowercase}
 use Rattle.std.proofs.lemmas.Bool.{leb-true}
@@ -12,10 +12,10 @@ use Rattle.sql_lex.specs.declared.context_word.ContextWord.{ContextWord}
 use Rattle.sql_lex.specs.declared.context_word.ContextWord.TheVariants as place
 use Rattle.sql_lex.specs.declared.token.Mark.{Mark}
 use Rattle.sql_lex.specs.declared.token.Mark.TheVariants as mark
-use Rattle.sql_lex.specs.Words.{text_of, keywords, keyword_of, letters_of, is_same_mark}
+use Rattle.sql_lex.specs.Words.{text_of, keywords, keyword_of, letters_of, is_same_mark, sign_of}
 use Rattle.sql_lex.specs.Tokens.{Spells}
 use Rattle.sql_lex.specs.Cut.{IsWord}
-use Rattle.sql_lex.proofs.Lexing.{word_is_name}
+use Rattle.sql_lex.proofs.RunLemmas.{word_is_name}
 
 -- each reserved word is found by its letters
 pub keyword_found : (word : Keyword) → keyword_of (text_of word) ≡ Some word
@@ -167,3 +167,20 @@ same_mark mark.AtMost mark.AtMost h = refl
 same_mark mark.Greater mark.Greater h = refl
 same_mark mark.AtLeast mark.AtLeast h = refl
 same_mark _ _ h = cc
+
+-- the signs of a mark spell it
+pub mark_spelled : (m : Mark) → Spells (sign_of m) (kind.Mark m)
+mark_spelled mark.Open = refl
+mark_spelled mark.Close = refl
+mark_spelled mark.Comma = refl
+mark_spelled mark.Semicolon = refl
+mark_spelled mark.Dot = refl
+mark_spelled mark.Star = refl
+mark_spelled mark.Plus = refl
+mark_spelled mark.Minus = refl
+mark_spelled mark.Equal = refl
+mark_spelled mark.NotEqual = inl refl
+mark_spelled mark.Less = refl
+mark_spelled mark.AtMost = refl
+mark_spelled mark.Greater = refl
+mark_spelled mark.AtLeast = refl

@@ -1,33 +1,27 @@
--- How the first token of some bytes is found, and the tokens behind it.
+-- How the piece in front of some bytes is found, and the tokens behind it.
 use Rattle.std.specs.List.{list_all, prefix_len}
-use Rattle.std.specs.Prelude.{◌≡◌, ◌≤◌, ◌<◌, true, false, ℕ, zero, suc, ◌+◌, Bool, ◌==◌, nat_le, if◌then◌else◌, List, [], ◌∷◌, length, map, take, drop, pos, Option, Some, None, unwrap_or, ◌-◌}
+use Rattle.std.specs.Prelude.{◌≡◌, ◌≤◌, ◌<◌, true, false, ℕ, zero, suc, ◌+◌, ◌-◌, Bool, ◌==◌, ◌&&◌, nat_le, if◌then◌else◌, List, [], ◌∷◌, length, map, take, drop, pos, Option, Some, None}
 use Rattle.std.specs.Char.{to_ascii_lowercase, is_ascii_digit}
 use Rattle.page_base.specs.Name.{is_name_byte}
 use Rattle.sql_lex.specs.declared.keyword.Keyword.{Keyword}
-use Rattle.sql_lex.specs.declared.token.Mark.TheVariants.{Open, Close, Comma, Semicolon, Dot, Star, Plus, Minus, Equal, Less, Greater}
+use Rattle.sql_lex.specs.declared.token.Mark.{Mark}
+use Rattle.sql_lex.specs.declared.token.Mark.TheVariants as sign
 use Rattle.sql_lex.specs.declared.token.Token.{Token}
 use Rattle.sql_lex.specs.declared.token.TokenKind.{TokenKind}
-use Rattle.sql_lex.specs.declared.token.TokenKind.TheVariants.{Key, Named, Number, Text, Mark, Bad, End}
+use Rattle.sql_lex.specs.declared.token.TokenKind.TheVariants as kind
+use Rattle.sql_lex.specs.declared.token.TokenKind.TheVariants.{Key, Named, Bracketed, Number, Text, Bad, End}
 use Rattle.sql_lex.specs.Words.{keyword_of}
-use Rattle.sql_lex.specs.Texts.{is_quote, doubled, undoubled, text_end}
-use Rattle.sql_lex.specs.Tokens.{is_white, goes_on, number_of, token}
+use Rattle.sql_lex.specs.Texts.{is_quote, undoubled, text_end, is_name}
+use Rattle.sql_lex.specs.Comments.{is_in_line, comment_end}
+use Rattle.sql_lex.specs.Tokens.{is_white, goes_on, starts, number_of, token}
 
--- how many white bytes stand in front
-abbrev pub white_len : List ℕ → ℕ
-white_len bytes = prefix_len is_white bytes
-
--- how many bytes behind its first the token has
-abbrev pub more_len : ℕ → List ℕ → ℕ
-more_len first bs = if is_quote first then unwrap_or (text_end false 0 bs) 0 else prefix_len (goes_on first) bs
-
--- how many bytes the token in front has
-abbrev pub token_len : List ℕ → ℕ
-token_len [] = 0
-token_len (b ∷ bs) = more_len b bs + 1
+-- a token of some kind, or none, and how many bytes it has
+abbrev pub Piece : Type 0
+Piece = Option TokenKind × ℕ
 
 -- a number token, bad where the number is too large
 abbrev pub number_kind : ℕ → TokenKind
-number_kind n = if nat_le n 2147483647 then Number (pos n) else Bad
+number_kind n = if nat_le n 9223372036854775807 then Number (pos n) else Bad
 
 -- a reserved word or another name
 abbrev pub name_kind : List ℕ → Option Keyword → TokenKind
@@ -38,51 +32,97 @@ name_kind name (Some word) = Key word
 abbrev pub word_kind : List ℕ → TokenKind
 word_kind bytes = if nat_le (length bytes) 128 then name_kind (map to_ascii_lowercase bytes) (keyword_of (map to_ascii_lowercase bytes)) else Bad
 
--- the kind of a byte that is no letter, digit or `_`
-abbrev pub mark_kind : ℕ → TokenKind
-mark_kind b = if b == 40 then Mark Open else (if b == 41 then Mark Close else (if b == 44 then Mark Comma else (if b == 59 then Mark Semicolon else (if b == 46 then Mark Dot else (if b == 42 then Mark Star else (if b == 43 then Mark Plus else (if b == 45 then Mark Minus else (if b == 61 then Mark Equal else (if b == 60 then Mark Less else (if b == 62 then Mark Greater else Bad))))))))))
-
--- all but the last byte
-abbrev pub front_of : List ℕ → List ℕ
-front_of bytes = take (length bytes - 1) bytes
-
--- the kind of a quote with these bytes behind it, bad where there is none
-abbrev pub text_kind : List ℕ → TokenKind
-text_kind [] = Bad
-text_kind (b ∷ bs) = Text (undoubled (front_of (b ∷ bs)))
-
--- behind a quote: a text with its quotes doubled, and the closing one
-abbrev pub IsTextRest : List ℕ → Type 0
-IsTextRest bytes = doubled (undoubled (front_of bytes)) ≡ front_of bytes
-
--- the bytes of a token: a quote alone or a text, or another byte that isn't white, and those that go on with it
-abbrev pub IsPiece : List ℕ → Type 0
-IsPiece [] = Unit {0}
-IsPiece (b ∷ bs) = (is_quote b ≡ true → IsTextRest bs) × (is_quote b ≡ false → list_all (goes_on b) bs ≡ true)
+-- digits, or letters, digits and `_`
+abbrev pub IsRun : List ℕ → Type 0
+IsRun [] = ⊥
+IsRun (b ∷ bs) = (is_name_byte b ≡ true) × (list_all (goes_on b) bs ≡ true)
 
 -- a letter or `_`, and the letters, digits and `_` behind it
 abbrev pub IsWord : List ℕ → Type 0
 IsWord [] = ⊥
 IsWord (b ∷ bs) = (is_ascii_digit b ≡ false) × (is_name_byte b ≡ true) × (list_all is_name_byte bs ≡ true)
 
--- the kind of the token that has these bytes
-abbrev pub kind_of : List ℕ → TokenKind
-kind_of [] = End
-kind_of (b ∷ bs) = if is_ascii_digit b then number_kind (number_of (b ∷ bs)) else (if is_name_byte b then word_kind (b ∷ bs) else (if is_quote b then text_kind bs else mark_kind b))
+-- the kind of a run
+abbrev pub run_kind : List ℕ → TokenKind
+run_kind [] = Bad
+run_kind (b ∷ bs) = if is_ascii_digit b then number_kind (number_of (b ∷ bs)) else word_kind (b ∷ bs)
 
--- the kind of the token in front
-abbrev pub first_kind : List ℕ → TokenKind
-first_kind bytes = kind_of (take (token_len bytes) bytes)
+-- so many bytes are a run
+abbrev pub run_piece : List ℕ → ℕ → Piece
+run_piece bytes len = (Some (run_kind (take len bytes)), len)
 
--- white space adds no token
-abbrev pub joined : Bool → List Token → Token → List Token → List Token
-joined white same t ts = if white then same else t ∷ ts
+-- a text that ends so many bytes behind its opening quote, a bad token where it isn't closed
+abbrev pub text_piece : List ℕ → Option ℕ → Piece
+text_piece bs None = (Some Bad, length bs + 1)
+text_piece bs (Some n) = (Some (Text (undoubled (take (n - 1) bs))), n + 1)
 
--- the tokens of bytes that stand at a place, of which the first ones belong to a token before
+-- a closing bracket
+abbrev pub is_bracket : ℕ → Bool
+is_bracket b = b == 93
+
+-- an opening bracket and a name of so many bytes behind it, a bad token where no closing one follows
+abbrev pub closed_name : List ℕ → ℕ → Bool → Piece
+closed_name name len closed = if closed then (Some (Bracketed name), len + 2) else (Some Bad, 1)
+
+-- an opening bracket with these letters and then these bytes behind it
+abbrev pub bracket_piece : List ℕ → List ℕ → Piece
+bracket_piece letters rest = if is_name letters then closed_name (map to_ascii_lowercase letters) (length letters) (starts is_bracket rest) else (Some Bad, 1)
+
+-- the mark of one byte
+abbrev pub mark_of_one : ℕ → Option Mark
+mark_of_one b = if b == 40 then Some sign.Open else (if b == 41 then Some sign.Close else (if b == 44 then Some sign.Comma else (if b == 59 then Some sign.Semicolon else (if b == 46 then Some sign.Dot else (if b == 42 then Some sign.Star else (if b == 43 then Some sign.Plus else (if b == 45 then Some sign.Minus else (if b == 61 then Some sign.Equal else (if b == 60 then Some sign.Less else (if b == 62 then Some sign.Greater else None))))))))))
+
+-- the mark of two bytes
+abbrev pub mark_of_two : ℕ → ℕ → Option Mark
+mark_of_two b c =
+    if b == 60 then (if c == 61 then Some sign.AtMost else (if c == 62 then Some sign.NotEqual else None))
+    else (if b == 62 then (if c == 61 then Some sign.AtLeast else None) else (if b == 33 then (if c == 61 then Some sign.NotEqual else None) else None))
+
+-- a mark of one byte, a bad token where it is none
+abbrev pub mark_piece : Option Mark → Piece
+mark_piece None = (Some Bad, 1)
+mark_piece (Some mark) = (Some (kind.Mark mark), 1)
+
+-- a mark of two bytes, or else of the first
+abbrev pub pair_piece : ℕ → Option Mark → Piece
+pair_piece b None = mark_piece (mark_of_one b)
+pair_piece b (Some mark) = (Some (kind.Mark mark), 2)
+
+-- a comment that ends so many bytes behind its opening, a bad token where it isn't closed
+abbrev pub comment_piece : List ℕ → Option ℕ → Piece
+comment_piece bs None = (Some Bad, length bs + 2)
+comment_piece bs (Some n) = (None, n + 2)
+
+-- a comment or a mark
+abbrev pub sign_piece : ℕ → List ℕ → Piece
+sign_piece b [] = mark_piece (mark_of_one b)
+sign_piece b (c ∷ cs) =
+    if b == 45 && c == 45 then (None, prefix_len is_in_line cs + 2)
+    else (if b == 47 && c == 42 then comment_piece cs (comment_end 0 0 0 cs) else pair_piece b (mark_of_two b c))
+
+-- how many letters, digits and `_` stand in front
+abbrev pub name_len : List ℕ → ℕ
+name_len bytes = prefix_len is_name_byte bytes
+
+-- the piece in front, the end where there are no bytes
+abbrev pub piece_of : List ℕ → Piece
+piece_of [] = (Some End, 0)
+piece_of (b ∷ bs) =
+    if is_white b then (None, 1)
+    else (if is_name_byte b then run_piece (b ∷ bs) (prefix_len (goes_on b) bs + 1)
+    else (if is_quote b then text_piece bs (text_end false 0 bs)
+    else (if b == 91 then bracket_piece (take (name_len bs) bs) (drop (name_len bs) bs) else sign_piece b bs)))
+
+-- white space and comments add no token
+abbrev pub put : ℕ → Option TokenKind → List Token → List Token
+put at None ts = ts
+put at (Some kind) ts = token at kind ∷ ts
+
+-- the tokens of bytes that stand at a place, of which the first ones belong to a piece before
 unfoldable pub cut : ℕ → ℕ → List ℕ → List Token
 cut before at [] = token at End ∷ []
 cut (suc before) at (b ∷ bs) = cut before (at + 1) bs
-cut zero at (b ∷ bs) = joined (is_white b) (cut zero (at + 1) bs) (token at (first_kind (b ∷ bs))) (cut (more_len b bs) (at + 1) bs)
+cut zero at (b ∷ bs) = put at (piece_of (b ∷ bs)).0 (cut ((piece_of (b ∷ bs)).1 - 1) (at + 1) bs)
 
 -- nothing stands behind the end
 abbrev pub behind : TokenKind → List Token → List Token

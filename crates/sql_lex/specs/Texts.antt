@@ -1,6 +1,8 @@
 -- How a text stands between its quotes.
 use Rattle.std.specs.Prelude.{ℕ, ◌+◌, Bool, true, false, ◌==◌, ◌&&◌, nat_le, if◌then◌else◌, List, [], ◌∷◌, ◌++◌, length, slice_index, not, Option, Some, None}
 use Rattle.std.specs.List.{list_all}
+use Rattle.std.specs.Char.{is_ascii_digit}
+use Rattle.page_base.specs.Name.{is_name_byte}
 use Rattle.page_base.specs.FileName.{is_file_name_byte}
 
 -- a single quote
@@ -36,6 +38,10 @@ abbrev pub text_end : Bool → ℕ → List ℕ → Option ℕ
 text_end quote n [] = if quote then Some n else None
 text_end true n (b ∷ bs) = if is_quote b then text_end false (n + 1) bs else Some n
 text_end false n (b ∷ bs) = if is_quote b then text_end true (n + 1) bs else (if is_printable b then text_end false (n + 1) bs else None)
+
+-- whether these bytes are a name
+abbrev pub is_name : List ℕ → Bool
+is_name bytes = (nat_le 1 (length bytes) && nat_le (length bytes) 128) && (not (is_ascii_digit (slice_index bytes 0)) && list_all is_name_byte bytes)
 
 -- whether these bytes are a name of a file
 abbrev pub is_file_name : List ℕ → Bool

@@ -1,16 +1,17 @@
 -- The tokens of a batch, and where they stand.
-use Rattle.std.specs.Prelude.{ℕ, ◌+◌, ◌*◌, ◌-◌, ◌≤◌, ◌≡◌, ◌≢◌, Bool, true, false, ◌==◌, ◌||◌, ◌&&◌, if◌then◌else◌, List, [], ◌∷◌, ◌++◌, length, map, pos}
+use Rattle.std.specs.Prelude.{ℕ, ◌+◌, ◌*◌, ◌-◌, ◌≤◌, ◌≡◌, ◌≢◌, Bool, true, false, ◌==◌, ◌||◌, ◌&&◌, if◌then◌else◌, List, [], ◌∷◌, ◌++◌, length, map, pos, codes, ◌⊎◌, Option, Some, None}
 use Rattle.std.specs.List.{list_all}
 use Rattle.std.specs.Char.{to_ascii_lowercase, is_ascii_digit}
 use Rattle.page_base.specs.Name.{IsName, is_name_byte}
 use Rattle.sql_lex.specs.declared.keyword.Keyword.{Keyword}
 use Rattle.sql_lex.specs.declared.token.Mark.{Mark}
-use Rattle.sql_lex.specs.declared.token.Mark.TheVariants.{Open, Close, Comma, Semicolon, Dot, Star, Plus, Minus, Equal, NotEqual, Less, AtMost, Greater, AtLeast}
+use Rattle.sql_lex.specs.declared.token.Mark.TheVariants.{NotEqual}
 use Rattle.sql_lex.specs.declared.token.Token.{Token}
 use Rattle.sql_lex.specs.declared.token.TokenKind.{TokenKind}
 use Rattle.sql_lex.specs.declared.token.TokenKind.TheVariants as kind
-use Rattle.sql_lex.specs.Words.{text_of}
+use Rattle.sql_lex.specs.Words.{text_of, sign_of}
 use Rattle.sql_lex.specs.Texts.{is_quote, is_printable, quoted}
+use Rattle.sql_lex.specs.Comments.{is_in_line, Closes, IsOpen}
 
 -- space, tab and line feed
 abbrev pub is_white : ℕ → Bool
@@ -34,34 +35,30 @@ number_behind n (d ∷ ds) = number_behind (n * 10 + (d - 48)) ds
 abbrev pub number_of : List ℕ → ℕ
 number_of digits = number_behind 0 digits
 
--- the bytes are a mark; those of two bytes aren't cut off yet
+-- two signs that are one: a mark of two bytes, or the opening of a comment
+abbrev pub is_pair : ℕ → ℕ → Bool
+is_pair b c = if b == 60 then (c == 61 || c == 62) else (if b == 62 || b == 33 then c == 61 else (if b == 45 then c == 45 else (b == 47 && c == 42)))
+
+-- the bytes are the mark
 abbrev pub IsMark : Mark → List ℕ → Type 0
-IsMark Open bytes = bytes ≡ 40 ∷ []
-IsMark Close bytes = bytes ≡ 41 ∷ []
-IsMark Comma bytes = bytes ≡ 44 ∷ []
-IsMark Semicolon bytes = bytes ≡ 59 ∷ []
-IsMark Dot bytes = bytes ≡ 46 ∷ []
-IsMark Star bytes = bytes ≡ 42 ∷ []
-IsMark Plus bytes = bytes ≡ 43 ∷ []
-IsMark Minus bytes = bytes ≡ 45 ∷ []
-IsMark Equal bytes = bytes ≡ 61 ∷ []
-IsMark NotEqual bytes = ⊥
-IsMark Less bytes = bytes ≡ 60 ∷ []
-IsMark AtMost bytes = ⊥
-IsMark Greater bytes = bytes ≡ 62 ∷ []
-IsMark AtLeast bytes = ⊥
+IsMark NotEqual bytes = (bytes ≡ codes "<>") ⊎ (bytes ≡ codes "!=")
+IsMark mark bytes = bytes ≡ sign_of mark
+
+-- a name in brackets
+abbrev pub in_brackets : List ℕ → List ℕ
+in_brackets letters = 91 ∷ (letters ++ 93 ∷ [])
 
 -- one or more digits
 abbrev pub AreDigits : List ℕ → Type 0
 AreDigits bytes = (starts is_ascii_digit bytes ≡ true) × (list_all is_ascii_digit bytes ≡ true)
 
--- The bytes spell a token that has a place in the grammar: a reserved word in any case, another name, which is kept in lower case,
--- a number of at most 2147483647, a text in quotes, or a mark.
+-- The bytes spell a token that has a place in the grammar: a reserved word in any case, another name or any name in brackets,
+-- which is kept in lower case, a number of at most 9223372036854775807, a text in quotes, or a mark.
 abbrev pub Spells : List ℕ → TokenKind → Type 0
 Spells bytes (kind.Key word) = IsName bytes × (map to_ascii_lowercase bytes ≡ text_of word)
 Spells bytes (kind.Named name) = IsName bytes × (map to_ascii_lowercase bytes ≡ name) × ((word : Keyword) → name ≢ text_of word)
-Spells bytes (kind.Bracketed name) = ⊥
-Spells bytes (kind.Number n) = AreDigits bytes × (number_of bytes ≤ 2147483647) × (n ≡ pos (number_of bytes))
+Spells bytes (kind.Bracketed name) = (letters : List ℕ) × (bytes ≡ in_brackets letters) × IsName letters × (map to_ascii_lowercase letters ≡ name)
+Spells bytes (kind.Number n) = AreDigits bytes × (number_of bytes ≤ 9223372036854775807) × (n ≡ pos (number_of bytes))
 Spells bytes (kind.Text text) = (bytes ≡ quoted text) × (list_all is_printable text ≡ true)
 Spells bytes (kind.Mark mark) = IsMark mark bytes
 Spells bytes kind.Bad = ⊥
@@ -70,33 +67,42 @@ Spells bytes kind.End = ⊥
 -- the bytes are a token of this kind, a bad one where they spell no other
 abbrev pub IsToken : List ℕ → TokenKind → Type 0
 IsToken bytes kind.Bad = (other : TokenKind) → Spells bytes other → ⊥
-IsToken bytes (kind.Key word) = Spells bytes (kind.Key word)
-IsToken bytes (kind.Named name) = Spells bytes (kind.Named name)
-IsToken bytes (kind.Bracketed name) = ⊥
-IsToken bytes (kind.Number n) = Spells bytes (kind.Number n)
-IsToken bytes (kind.Text text) = Spells bytes (kind.Text text)
-IsToken bytes (kind.Mark mark) = Spells bytes (kind.Mark mark)
-IsToken bytes kind.End = ⊥
+IsToken bytes what = Spells bytes what
 
--- a token of this kind at a place
-abbrev pub token : ℕ → TokenKind → Token
-token at what = record { at = at; kind = what }
+-- no token is spelled by bytes in front
+abbrev pub IsStray : List ℕ → Type 0
+IsStray bytes = (front rest : List ℕ) (what : TokenKind) → Spells front what → bytes ≡ front ++ rest → ⊥
 
 -- a text that isn't closed begins here: no text in quotes stands in front, behind which no quote follows
 abbrev pub IsUnclosed : List ℕ → Type 0
 IsUnclosed bytes = (text rest : List ℕ) → list_all is_printable text ≡ true → starts is_quote rest ≡ false → bytes ≡ quoted text ++ rest → ⊥
 
--- The bytes from this place on are these tokens, parted by white space, and the end. Each token is as long as it can be.
--- The quote of a text that isn't closed is a bad token.
+-- What stands in front of other bytes: white space or a comment, which are no token, or a token. Each is as long as it can be.
+-- A text or a comment that isn't closed is a bad token with all bytes that are left.
+pub data IsPiece : List ℕ → List ℕ → Option TokenKind → Type 0 where
+  white : (b : ℕ) (rest : List ℕ) → is_white b ≡ true → IsPiece (b ∷ []) rest None
+  line : (more rest : List ℕ) → list_all is_in_line more ≡ true → starts is_in_line rest ≡ false → IsPiece (45 ∷ 45 ∷ more) rest None
+  comment : (inside rest : List ℕ) → Closes 1 inside → IsPiece (47 ∷ 42 ∷ inside) rest None
+  word : (first : ℕ) (more rest : List ℕ) (what : TokenKind) → is_name_byte first ≡ true → list_all (goes_on first) more ≡ true → starts (goes_on first) rest ≡ false
+      → IsToken (first ∷ more) what → IsPiece (first ∷ more) rest (Some what)
+  text : (content rest : List ℕ) → list_all is_printable content ≡ true → starts is_quote rest ≡ false → IsPiece (quoted content) rest (Some (kind.Text content))
+  bracketed : (letters rest : List ℕ) → IsName letters → IsPiece (in_brackets letters) rest (Some (kind.Bracketed (map to_ascii_lowercase letters)))
+  pair : (b c : ℕ) (rest : List ℕ) (mark : Mark) → IsMark mark (b ∷ c ∷ []) → IsPiece (b ∷ c ∷ []) rest (Some (kind.Mark mark))
+  mark : (b : ℕ) (rest : List ℕ) (mark : Mark) → IsMark mark (b ∷ []) → starts (is_pair b) rest ≡ false → IsPiece (b ∷ []) rest (Some (kind.Mark mark))
+  open_text : (more : List ℕ) → IsUnclosed (39 ∷ more) → IsPiece (39 ∷ more) [] (Some kind.Bad)
+  open_comment : (more : List ℕ) → IsOpen more → IsPiece (47 ∷ 42 ∷ more) [] (Some kind.Bad)
+  stray : (b : ℕ) (rest : List ℕ) → is_white b ≡ false → is_quote b ≡ false → starts (is_pair b) rest ≡ false → IsStray (b ∷ rest) → IsPiece (b ∷ []) rest (Some kind.Bad)
+
+-- a token of this kind at a place
+abbrev pub token : ℕ → TokenKind → Token
+token at what = record { at = at; kind = what }
+
+-- the bytes from this place on are these tokens, and the end
 pub data Lexes : ℕ → List ℕ → List Token → Type 0 where
   end : (at : ℕ) → Lexes at [] (token at kind.End ∷ [])
-  white : (at b : ℕ) (rest : List ℕ) (ts : List Token) → is_white b ≡ true → Lexes (at + 1) rest ts → Lexes at (b ∷ rest) ts
-  next : (at first : ℕ) (more rest : List ℕ) (what : TokenKind) (ts : List Token) → is_white first ≡ false → is_quote first ≡ false
-      → list_all (goes_on first) more ≡ true → starts (goes_on first) rest ≡ false → IsToken (first ∷ more) what
-      → Lexes (at + length (first ∷ more)) rest ts → Lexes at (first ∷ more ++ rest) (token at what ∷ ts)
-  text : (at : ℕ) (content rest : List ℕ) (ts : List Token) → list_all is_printable content ≡ true → starts is_quote rest ≡ false
-      → Lexes (at + length (quoted content)) rest ts → Lexes at (quoted content ++ rest) (token at (kind.Text content) ∷ ts)
-  unclosed : (at : ℕ) (rest : List ℕ) (ts : List Token) → IsUnclosed (39 ∷ rest) → Lexes (at + 1) rest ts → Lexes at (39 ∷ rest) (token at kind.Bad ∷ ts)
+  blank : (at : ℕ) (front rest : List ℕ) (ts : List Token) → IsPiece front rest None → Lexes (at + length front) rest ts → Lexes at (front ++ rest) ts
+  next : (at : ℕ) (front rest : List ℕ) (what : TokenKind) (ts : List Token) → IsPiece front rest (Some what) → Lexes (at + length front) rest ts
+      → Lexes at (front ++ rest) (token at what ∷ ts)
 
 -- what each token is
 abbrev pub kinds : List Token → List TokenKind

@@ -1,12 +1,17 @@
 //! Cuts batches into tokens.
 #![tactic(auto)]
 
+mod bytes;
+mod comment;
 mod context_word;
 mod keyword;
 mod law;
-mod lexer;
+mod piece;
 mod quoted;
 mod refusal;
+mod run;
+mod sign;
+mod text;
 mod token;
 mod tokens;
 
@@ -16,4 +21,4 @@ pub use law::bytes_have_one_cutting;
 pub use quoted::Quoted;
 pub use refusal::ParseRefusal;
 pub use token::{Mark, Token, TokenKind};
-pub use tokens::Tokens;
+pub use tokens::{Tokens, first_place};

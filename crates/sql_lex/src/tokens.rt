@@ -1,12 +1,46 @@
 //! The tokens that are left of a batch, made one at a time, the first of them read ahead.
 
-ghost use Rattle.std.specs.Prelude.{◌≡◌, ◌<◌, ◌∷◌, [], false, length, IsTrue};
+ghost use Rattle.std.specs.Prelude.{◌≡◌, ◌<◌, ◌≤◌, ◌∷◌, [], false, length, IsTrue, ℕ, List};
 ghost use Rattle.sql_lex.specs.Tokens.{Lexes};
+ghost use Rattle.sql_lex.specs.Cut.{behind, tokens_from};
 ghost use Rattle.sql_lex.specs.Ahead.{first_of, behind_first, is_over};
+ghost use Rattle.sql_lex.specs.declared.token.Token.{Token};
 
+use crate::piece::piece;
 use crate::{Token, TokenKind};
-use crate::lexer::token_from;
 use std::marker::Model;
+
+// The next token from a place on, and the place behind it.
+fn token_from(batch: &[u8], from: usize) -> (Token<'_>, usize)
+    requires within { from ≤ length batch.now }
+    requires short { length batch.now < 4294967295 }
+    ensures tokens { result.0 ∷ behind result.0.kind (tokens_from batch.now result.1) ≡ tokens_from batch.now from }
+    ensures within { result.1 ≤ length batch.now }
+{
+    let mut at = from;
+    'pieces: loop {
+        let (what, len) = piece(&batch[at..]);
+        match what {
+            None => at += len,
+            Some(kind) => {
+                let token = Token {
+                    at: at as u32,
+                    kind,
+                };
+                return (token, at + len);
+            }
+        }
+    }
+}
+
+/// The place of the first token of a batch: of the first byte that is neither white space nor in a comment that is closed, or
+/// the batch's length.
+pub fn first_place(batch: &[u8]) -> u32
+    requires { length batch.now < 4294967295 }
+    ensures { (ts : List Token) → Lexes 0 batch.now ts → result ≡ (first_of ts).at }
+{
+    token_from(batch, 0).0.at
+}
 
 /// The tokens that are left of a batch; the last one alone is the end.
 #[derive(Drop)]
