@@ -14,7 +14,7 @@ use Rattle.sql_lex.specs.Tokens.{kinds}
 use Rattle.sql_read.specs.Grammar.{IsStmt, use_database, create_table, create_snap, insert_row, update_rows, select_all, AreStmts, FileText, AreFiles, more_file, more_number, more_column}
 use Rattle.sql_read.specs.Place.{Begins, IsFull, IsWrong}
 use Rattle.sql_read.specs.Laws.{HasOneReading, HasOnePlace}
-use Rattle.sql_lex.proofs.CuttingLaws.{one_list}
+use Rattle.sql_lex.proofs.Cutting.{one_list}
 use Rattle.sql_lex.proofs.FileLemmas.{short_file_name}
 
 numbers_one : (ns ms : List ℤ) (rest more : List TokenKind) → flat_map more_number ns ++ Mark mark.Close ∷ rest ≡ flat_map more_number ms ++ Mark mark.Close ∷ more → (ns ≡ ms) × (rest ≡ more)

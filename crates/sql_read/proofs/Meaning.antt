@@ -1,6 +1,6 @@
 -- What tokens may follow where some symbols are due, and that the table keeps to it.
 use Rattle.std.proofs.Common.{◌≡◌, ℕ, ◌+◌, Bool, true, false, cond, List, [], ◌∷◌, ◌++◌, length, arith, ap, sym, ◌∙◌, refl, subst, Option, append_assoc, inl, inr, ◌⊎◌}
-use Rattle.std.specs.Prelude.{ℤ, pos, Some, None, nat_le, ◌&&◌, ◌==◌, flat_map, codes}
+use Rattle.std.specs.Prelude.{ℤ, pos, Some, None, nat_le, ◌&&◌, flat_map, codes}
 use Rattle.page_base.specs.FileName.{IsFileName, last_part}
 use Rattle.sql_lex.specs.declared.context_word.ContextWord.{ContextWord}
 use Rattle.sql_lex.specs.declared.context_word.ContextWord.TheVariants as place

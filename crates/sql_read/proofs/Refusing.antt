@@ -19,7 +19,7 @@ use Rattle.sql_lex.specs.declared.refusal.ParseRefusal.TheVariants.{Syntax, Memo
 use Rattle.sql_read.specs.Steps.{FailsTo}
 use Rattle.sql_read.specs.Table.{Symbol, Key, Word, Sign, AnyName, AnyNumber, AnyPath, Part, MoreNumbers, MoreColumns, MoreFiles, Created, MoreStmts, Finish, file_symbols, insert_rest, update_rest, select_rest, feed, start, run, onward, Verdict, Stops, is_mark, is_key, is_word, is_name, is_number, is_path}
 use Rattle.std.proofs.lemmas.List.{map-append}
-use Rattle.sql_lex.proofs.CuttingLaws.{one_list}
+use Rattle.sql_lex.proofs.Cutting.{one_list}
 use Rattle.sql_read.proofs.Reaching.{and_then, steps, steps_append, steps_stmts}
 use Rattle.sql_read.proofs.Writing.{write_stmts}
 use Rattle.sql_lex.proofs.Writing.{AreSpelled, AreCut, spelled_front, spelled_both, cut_kinds}

@@ -36,4 +36,3 @@ write_stmts limited ks [] h spelled at = ([], token at End ∷ [], end at, sym h
 write_stmts limited ks (s ∷ ss) (front, rest, split, is, others) spelled at =
     let both : AreSpelled (front ++ rest) = subst AreSpelled split spelled in
     subst (AreWritten at) (sym split) (write_front front rest (stmt_no_end limited front s is) (spelled_front front rest both) (λ from. write_stmts limited rest ss others (spelled_rest front rest both) from) at)
-

@@ -1,5 +1,5 @@
 -- What one step of reading does with the tokens that are left.
-use Rattle.std.specs.Prelude.{ℕ, ◌≡◌, ◌≤◌, ◌+◌, Bool, true, false, List, [], ◌∷◌, ◌++◌, length, map, flat_map, ℤ, pos, Option, Some, None, Result, Ok, Err}
+use Rattle.std.specs.Prelude.{ℕ, ◌≡◌, ◌≤◌, ◌+◌, Bool, true, false, List, ◌∷◌, ◌++◌, length, map, flat_map, ℤ, pos, Option, Some, None, Result, Ok, Err}
 use Rattle.plain_model.specs.declared.expr.Expr as expr
 use Rattle.plain_model.specs.declared.expr.Expr.{Expr}
 use Rattle.plain_model.specs.declared.stmt.Stmt.{Stmt}

@@ -1,8 +1,7 @@
 -- What may still come behind a front of a batch, token by token.
-use Rattle.std.specs.Prelude.{ℕ, ◌+◌, ◌==◌, nat_le, Bool, true, false, ◌&&◌, if◌then◌else◌, List, [], ◌∷◌, ◌++◌, Option, Some, None, length, slice_index, not, ◌||◌}
-use Rattle.std.specs.List.{list_all}
+use Rattle.std.specs.Prelude.{ℕ, ◌+◌, nat_le, Bool, true, false, ◌&&◌, if◌then◌else◌, List, [], ◌∷◌, ◌++◌, Option, Some, None, not, ◌||◌}
 use Rattle.std.specs.Str.{bytes_eq}
-use Rattle.page_base.specs.FileName.{is_file_name_byte, last_part}
+use Rattle.page_base.specs.FileName.{last_part}
 use Rattle.sql_lex.specs.declared.context_word.ContextWord.{ContextWord}
 use Rattle.sql_lex.specs.declared.context_word.ContextWord.TheVariants as place
 use Rattle.sql_lex.specs.declared.keyword.Keyword.{Keyword}

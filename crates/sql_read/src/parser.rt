@@ -38,7 +38,9 @@ impl<'t> Parser<'t> {
         requires { length batch.now < 4294967295 }
         ensures { Lexes 0 batch.now result }
     {
-        Parser { tokens: Tokens::new(batch) }
+        Parser {
+            tokens: Tokens::new(batch),
+        }
     }
 
     // The refusal at the next token.
@@ -46,7 +48,9 @@ impl<'t> Parser<'t> {
         ensures at { result ≡ Syntax (first_of self.now).at }
         ensures there { self.now ≡ first_of self.now ∷ behind_first self.now }
     {
-        ParseRefusal::Syntax { at: self.tokens.next().at }
+        ParseRefusal::Syntax {
+            at: self.tokens.next().at,
+        }
     }
 
     // Whether the next token is the end.

@@ -1,5 +1,4 @@
-use Rattle.std.proofs.Common.{[], ◌∷◌, ap, ◌∙◌, append_assoc, append-nil, sym, refl}
-use Rattle.sql_lex.specs.Tokens.{kinds}
+use Rattle.std.proofs.Common.{[], ◌∷◌, ◌∙◌, append_assoc, append-nil, sym, refl}
 use Rattle.std.proofs.lemmas.Result.{err_from_is_err_and}
 use Rattle.sql_read.proofs.Refusing.{refused_exit}
 use Rattle.sql_read.proofs.Passing.{over_is}
