@@ -11,6 +11,8 @@ mod quoted;
 mod refusal;
 mod run;
 mod sign;
+#[cfg(test)]
+mod tests;
 mod text;
 mod token;
 mod tokens;
