@@ -13,3 +13,4 @@ pub mod Meaning
 pub mod Refusing
 pub mod LawLemmas
 pub mod Writing
+pub mod StmtPlaces

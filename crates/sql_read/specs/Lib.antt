@@ -8,3 +8,4 @@ pub mod Place
 pub mod Ahead
 pub mod Steps
 pub mod Laws
+pub mod StmtPlace

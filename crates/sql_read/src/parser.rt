@@ -11,6 +11,7 @@ ghost use Rattle.sql_read.specs.Table.{Symbol, Key, Word, Sign, AnyName, AnyNumb
 ghost use Rattle.sql_read.specs.Steps.{Passes, Eats, IsEnd, ReadsNumber, ReadsPath, IsPathOf};
 
 use crate::lexer::token_from;
+use crate::stmt_place::token_count;
 use crate::{ContextWord, Keyword, Mark, ParseRefusal, Token, TokenKind};
 use page_base::{FileName, Name};
 use plain_model::Expr;
@@ -50,7 +51,7 @@ impl<'t> Parser<'t> {
     }
 
     // The refusal at the next token.
-    fn refused(&self) -> ParseRefusal
+    pub(crate) fn refused(&self) -> ParseRefusal
         ensures { result ≡ Syntax self.now.next.at }
     {
         ParseRefusal::Syntax { at: self.next.at }
@@ -63,6 +64,17 @@ impl<'t> Parser<'t> {
         match &self.next.kind {
             TokenKind::End => true,
             _ => false,
+        }
+    }
+
+    // How many tokens are left, with the end.
+    pub(crate) fn tokens_left(&self) -> usize
+        ensures value { result ≡ length (left self.now) }
+        ensures some { 1 ≤ result }
+    {
+        match &self.next.kind {
+            TokenKind::End => 1,
+            _ => token_count(self.batch, self.at) + 1,
         }
     }
 

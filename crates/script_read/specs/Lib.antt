@@ -1,0 +1,9 @@
+pub mod Lines
+pub mod Decimal
+pub mod Classes
+pub mod Picks
+pub mod Faults
+pub mod Limit
+pub mod Refusal
+pub mod Script
+pub mod Laws
