@@ -1,9 +1,11 @@
+pub mod Words
 pub mod Lines
+pub mod Left
 pub mod Decimal
 pub mod Classes
+pub mod Taking
 pub mod Picks
 pub mod Faults
 pub mod Limit
 pub mod Refusal
 pub mod Script
-pub mod Laws

@@ -1,5 +1,5 @@
 -- Which lines some bytes are.
-use Rattle.std.specs.Prelude.{ℕ, Bool, false, ◌==◌, ◌&&◌, if◌then◌else◌, List, [], ◌∷◌, ◌++◌, flat_map}
+use Rattle.std.specs.Prelude.{ℕ, Bool, false, ◌==◌, ◌&&◌, not, if◌then◌else◌, List, [], ◌∷◌, ◌++◌, flat_map}
 
 -- whether a line feed comes next
 abbrev pub is_at_end : List ℕ → Bool
@@ -10,6 +10,10 @@ is_at_end (b ∷ bs) = b == 10
 abbrev pub without_returns : List ℕ → List ℕ
 without_returns [] = []
 without_returns (b ∷ bs) = if b == 13 && is_at_end bs then without_returns bs else b ∷ without_returns bs
+
+-- a byte that doesn't end a line
+abbrev pub is_inside : ℕ → Bool
+is_inside b = not (b == 10)
 
 -- a byte in front of the first line
 abbrev pub before_first : ℕ → List (List ℕ) → List (List ℕ)
