@@ -1,3 +1,4 @@
 pub mod Numbers
 pub mod LineLemmas
 pub mod Takings
+pub mod WordLemmas

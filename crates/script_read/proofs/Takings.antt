@@ -55,5 +55,5 @@ took_bytes lines new start rest e f =
 
 -- what holds where there is no value
 pub no_value : {X : Type 0} (o : Option X) (P : Type 0) (Q : X → Type 0) → MatchOption o P Q → ((x : X) → o ≡ Some x → ⊥) → P
-no_value None P Q h no = h
-no_value (Some x) P Q h no = absurd (no x refl)
+no_value None P Q h none = h
+no_value (Some x) P Q h none = absurd (none x refl)

@@ -7,5 +7,6 @@ pub mod Taking
 pub mod Picks
 pub mod Faults
 pub mod Limit
-pub mod Refusal
 pub mod Script
+pub mod Refusal
+pub mod Steps

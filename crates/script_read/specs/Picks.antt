@@ -62,6 +62,10 @@ pub record IsPick (sessions : ℕ) (word : List ℕ) (pick : Pick) : Type 0 wher
 abbrev pub is_space : ℕ → Bool
 is_space b = b == 32
 
+-- a byte that doesn't end a word
+abbrev pub is_inside_word : ℕ → Bool
+is_inside_word b = not (b == 32)
+
 abbrev pub is_word : List ℕ → Bool
 is_word [] = false
 is_word (b ∷ bs) = true

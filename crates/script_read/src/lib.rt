@@ -4,8 +4,10 @@
 mod batch;
 mod class;
 mod decimal;
+mod fault;
 mod pick;
 mod reader;
 mod refusal;
+mod schedule;
 
 pub use refusal::{ScriptRefusal, Why};
