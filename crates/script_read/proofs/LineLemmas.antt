@@ -108,3 +108,25 @@ kept_short false b most bs h = omega arith
 pub length-without_returns : (bytes : List ℕ) → length (without_returns bytes) ≤ length bytes
 length-without_returns [] = omega arith
 length-without_returns (b ∷ bs) = kept_short (b == 13 && is_at_end bs) b (length bs) (without_returns bs) (length-without_returns bs)
+
+before_first_few : (b n : ℕ) (lines : List (List ℕ)) → length lines ≤ n → length (before_first b lines) ≤ suc n
+before_first_few b n [] h = omega arith
+before_first_few b n (line ∷ lines) h = omega arith
+
+lines_few_by : (v : Bool) (b n : ℕ) (lines : List (List ℕ)) → length lines ≤ n → length (cond v ([] ∷ lines) (before_first b lines)) ≤ suc n
+lines_few_by true b n lines h = omega arith
+lines_few_by false b n lines h = before_first_few b n lines h
+
+-- there are no more lines than bytes
+pub lines_few : (text : List ℕ) → length (lines_in text) ≤ length text
+lines_few [] = omega arith
+lines_few (b ∷ bs) = lines_few_by (b == 10) b (length bs) (lines_in bs) (lines_few bs)
+
+-- an end that the last line lacks adds no line
+last_one : (v : Bool) (b : ℕ) → (b == 10) ≡ v → lines_in (b ∷ cond (not v) (10 ∷ []) []) ≡ lines_in (b ∷ [])
+last_one true b e = refl
+last_one false b e = rw e refl
+
+pub closed_lines : (text : List ℕ) (b : ℕ) → lines_in ((text ++ b ∷ []) ++ cond (not (b == 10)) (10 ∷ []) []) ≡ lines_in (text ++ b ∷ [])
+closed_lines [] b = last_one (b == 10) b refl
+closed_lines (c ∷ text) b = ap (λ (ls : List (List ℕ)). cond (c == 10) ([] ∷ ls) (before_first c ls)) (closed_lines text b)

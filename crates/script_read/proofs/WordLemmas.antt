@@ -51,3 +51,60 @@ pub record Added (sessions : ℕ) (line rest : List ℕ) (old new : List Pick) :
   pub done : List Pick
   pub all : picks_of sessions (words line) ≡ prefixed done (picks_of sessions (words rest))
   pub new_is : new ≡ old ++ done
+
+prefixed_none : (o : Option (List Pick)) → prefixed [] o ≡ o
+prefixed_none None = refl
+prefixed_none (Some picks) = refl
+
+prefixed_twice : (done more : List Pick) (o : Option (List Pick)) → prefixed done (prefixed more o) ≡ prefixed (done ++ more) o
+prefixed_twice done more None = refl
+prefixed_twice done more (Some picks) = rw append_assoc refl
+
+one_pick : (o : Option Pick) (p : Option (List Pick)) (more : List Pick) → with_pick o (Some []) ≡ Some more → with_pick o p ≡ prefixed more p
+one_pick None p more e = cc
+one_pick (Some pick) None more e = refl
+one_pick (Some pick) (Some picks) more e = let same : pick ∷ [] ≡ more = cc in rw (← same) refl
+
+first_picks : (v : Bool) (sessions : ℕ) (word : List ℕ) (rest : List (List ℕ)) (more : List Pick) → is_word word ≡ v → picks_of sessions (with_word word []) ≡ Some more
+    → picks_of sessions (with_word word rest) ≡ prefixed more (picks_of sessions rest)
+first_picks true sessions word rest more e h = rw e (one_pick (pick_of sessions word) (picks_of sessions rest) more (rw e at h))
+first_picks false sessions word rest more e h = let same : [] ≡ more = cc (rw e at h) in rw (e, ← same) (sym (prefixed_none (picks_of sessions rest)))
+
+no_pick : (o : Option Pick) (p : Option (List Pick)) → with_pick o (Some []) ≡ None → with_pick o p ≡ None
+no_pick None p e = refl
+no_pick (Some pick) p e = cc
+
+no_picks : (v : Bool) (sessions : ℕ) (word : List ℕ) (rest : List (List ℕ)) → is_word word ≡ v → picks_of sessions (with_word word []) ≡ None → picks_of sessions (with_word word rest) ≡ None
+no_picks true sessions word rest e h = rw e (no_pick (pick_of sessions word) (picks_of sessions rest) (rw e at h))
+no_picks false sessions word rest e h = cc (rw e at h)
+
+pub added_none : (sessions : ℕ) (line : List ℕ) (old : List Pick) → Added sessions line line old old
+added_none sessions line old = record { done = []; all = sym (prefixed_none (picks_of sessions (words line))); new_is = sym (append-nil old) }
+
+-- a word more was added
+pub added_more : (sessions : ℕ) (line rest : List ℕ) (old new next : List Pick) → Added sessions line rest old new → Adds true new next (picks_of sessions (with_word (take (prefix_len is_inside_word rest) rest) []))
+    → Added sessions line (drop (prefix_len is_inside_word rest + 1) rest) old next
+added_more sessions line rest old new next h (more, e, f) =
+    let word : List ℕ = take (prefix_len is_inside_word rest) rest in
+    let behind : List ℕ = drop (prefix_len is_inside_word rest + 1) rest in
+    let step : picks_of sessions (words rest) ≡ prefixed more (picks_of sessions (words behind))
+    = ap (picks_of sessions) (words_first rest) ∙ first_picks (is_word word) sessions word (words behind) more refl e in
+    record {
+      done = h.done ++ more;
+      all = h.all ∙ ap (prefixed h.done) step ∙ prefixed_twice h.done more (picks_of sessions (words behind));
+      new_is = f ∙ ap (λ (ps : List Pick). ps ++ more) h.new_is ∙ append_assoc old h.done more;
+    }
+
+-- a word that is no pick ends it
+pub added_wrong : (sessions : ℕ) (line rest : List ℕ) (old new next : List Pick) → Added sessions line rest old new → Adds false new next (picks_of sessions (with_word (take (prefix_len is_inside_word rest) rest) []))
+    → Adds false old next (picks_of sessions (words line))
+added_wrong sessions line rest old new next h e =
+    let word : List ℕ = take (prefix_len is_inside_word rest) rest in
+    let behind : List ℕ = drop (prefix_len is_inside_word rest + 1) rest in
+    let step : picks_of sessions (words rest) ≡ None = ap (picks_of sessions) (words_first rest) ∙ no_picks (is_word word) sessions word (words behind) refl e in
+    h.all ∙ ap (prefixed h.done) step
+
+-- at the end all were added
+pub added_all : (sessions : ℕ) (line rest : List ℕ) (old new : List Pick) → Added sessions line rest old new → length rest ≡ 0 → Adds true old new (picks_of sessions (words line))
+added_all sessions line [] old new h e = (h.done, h.all ∙ ap Some (append-nil h.done), h.new_is)
+added_all sessions line (b ∷ bs) old new h e = absurd (omega (arith, e))

@@ -34,22 +34,26 @@ abbrev mutual
       else grown number line (batches (Within n) (number + 1) lines)
 
 -- a batch says these statements; one that isn't in the grammar says the one that stands for it
+abbrev pub SaysText : List ℕ → List Stmt → Type 0
+SaysText batch stmts = IsBatch batch stmts ⊎ ((at : ℕ) × IsRefusedAt batch at × (stmts ≡ Broken at ∷ []))
+
+-- lines that are a batch say these statements
 abbrev pub Says : List (List ℕ) → List Stmt → Type 0
-Says lines stmts = IsBatch (joined lines) stmts ⊎ ((at : ℕ) × IsRefusedAt (joined lines) at × (stmts ≡ Broken at ∷ []))
+Says lines stmts = SaysText (joined lines) stmts
 
 -- how many lines end before a place
 abbrev pub ends_before : ℕ → List ℕ → ℕ
 ends_before at bytes = count_by (λ b. b == 10) (take at bytes)
 
--- statement n of a batch, counted from 0, begins on this line
-pub record Begins (batch : Batch) (n line : ℕ) : Type 0 where
+-- statement n of a batch, counted from 0, begins on this line, where the batch begins on that one
+pub record Begins (batch : List ℕ) (first n line : ℕ) : Type 0 where
   pub at : ℕ
-  pub place : IsStmtPlace (joined batch.lines) n at
-  pub line_is : line ≡ batch.line + ends_before at (joined batch.lines)
+  pub place : IsStmtPlace batch n at
+  pub line_is : line ≡ first + ends_before at batch
 
 -- These batches, which come behind so many statements, have one past 20,000 statements, and the first such begins on this line.
 abbrev pub IsPast : ℕ → List Batch → ℕ → Type 0
 IsPast said [] line = ⊥
 IsPast said (batch ∷ batches) line =
     (stmts : List Stmt) × Says batch.lines stmts
-    × (((said + length stmts ≤ 20000) × IsPast (said + length stmts) batches line) ⊎ ((20000 < said + length stmts) × Begins batch (20000 - said) line))
+    × (((said + length stmts ≤ 20000) × IsPast (said + length stmts) batches line) ⊎ ((20000 < said + length stmts) × Begins (joined batch.lines) batch.line (20000 - said) line))

@@ -13,12 +13,12 @@ use crate::reader::Reader;
 #[derive(Drop)]
 pub(crate) struct Batch<'t> {
     pub(crate) bytes: &'t [u8],
-    pub(crate) line: usize,
-    pub(crate) bad: Option<usize>,
+    pub(crate) line: u32,
+    pub(crate) bad: Option<u32>,
 }
 
 // The first bad line so far, where another one follows.
-fn noted(bad: Option<usize>, number: usize, line: &[u8]) -> Option<usize>
+fn noted(bad: Option<u32>, number: u32, line: &[u8]) -> Option<u32>
     ensures { result ≡ noted bad number line.now }
 {
     match bad {
@@ -59,7 +59,8 @@ impl<'t> Reader<'t> {
 
     // Takes the lines up to the one that ends the batch.
     pub(crate) fn batch(&mut self) -> Batch<'t>
-        ensures { TakesBatch result.bytes.now result.line result.bad self.old.line (left self.old) self.new.line (left self.new) }
+        ensures takes { TakesBatch result.bytes.now result.line result.bad self.old.line (left self.old) self.new.line (left self.new) }
+        ensures counted { result.line + length result.bytes.now ≤ 4294967295 }
     {
         let (start, line) = (self.rest(), self.line);
         let mut bad = None;

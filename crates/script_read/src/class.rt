@@ -73,7 +73,7 @@ fn blank_len(line: &[u8]) -> usize
         .count()
 }
 
-fn is_go(line: &[u8]) -> bool
+pub(crate) fn is_go(line: &[u8]) -> bool
     ensures { result ≡ is_go line.now }
 {
     goes(&line[blank_len(line)..])

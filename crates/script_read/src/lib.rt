@@ -9,5 +9,6 @@ mod pick;
 mod reader;
 mod refusal;
 mod schedule;
+mod session;
 
 pub use refusal::{ScriptRefusal, Why};

@@ -32,7 +32,8 @@ fn without_returns(alloc: Global, bytes: &[u8]) -> Result<Vec<u8>, NoMemory>
 
 // Whether the last line lacks its end.
 fn lacks_end(text: &[u8]) -> bool
-    ensures { ended (lines_in text.now) ≡ text.now ++ (if result then 10 ∷ [] else []) }
+    ensures text { ended (lines_in text.now) ≡ text.now ++ (if result then 10 ∷ [] else []) }
+    ensures lines { lines_in (text.now ++ (if result then 10 ∷ [] else [])) ≡ lines_in text.now }
 {
     match text.split_last() {
         Some((last, _)) => *last != b'\n',
@@ -42,7 +43,8 @@ fn lacks_end(text: &[u8]) -> bool
 
 // The lines of a script, each with its end.
 pub(crate) fn text_of(alloc: Global, bytes: &[u8]) -> Result<Vec<u8>, NoMemory>
-    ensures lines { IfOk result (λ text. text.items ≡ ended (lines_of bytes.now)) }
+    ensures lines { IfOk result (λ text. lines_in text.items ≡ lines_of bytes.now) }
+    ensures whole { IfOk result (λ text. text.items ≡ ended (lines_in text.items)) }
     ensures short { IfOk result (λ text. length text.items ≤ length bytes.now + 1) }
 {
     let mut text = without_returns(alloc, bytes)?;
@@ -93,9 +95,10 @@ fn behind_line(text: &[u8]) -> &[u8]
 #[derive(Drop)]
 pub(crate) struct Reader<'t> {
     rest: &'t [u8],
-    pub(crate) line: usize,
+    pub(crate) line: u32,
     ghost whole: { rest.now ≡ ended (lines_in rest.now) },
     ghost counted: { line + length rest.now ≤ 4294967296 },
+    ghost numbered: { line + length (lines_in rest.now) ≤ 4294967295 },
 }
 
 #[tactic(auto, unfolding(crate::specs::Left::left))]
@@ -106,6 +109,7 @@ impl<'t> Reader<'t> {
     pub(crate) fn new(text: &'t [u8]) -> Reader<'t>
         requires whole { text.now ≡ ended (lines_in text.now) }
         requires short { length text.now ≤ 4294967295 }
+        requires few { length (lines_in text.now) ≤ 4294967294 }
         ensures left { left result ≡ lines_in text.now }
         ensures line { result.line ≡ 1 }
     {
@@ -120,6 +124,7 @@ impl<'t> Reader<'t> {
         ensures lines { left self.now ≡ lines_in result.now }
         ensures whole { result.now ≡ ended (left self.now) }
         ensures counted { self.now.line + length result.now ≤ 4294967296 }
+        ensures numbered { self.now.line ≤ 4294967295 }
     {
         self.rest
     }

@@ -1,9 +1,9 @@
 //! Reading the schedule.
 
-ghost use Rattle.std.specs.Prelude.{◌≡◌, ◌≤◌, ◌<◌, ◌+◌, ◌∷◌, [], List, ℕ, length, drop, take, IfOk, IfErr, Option};
+ghost use Rattle.std.specs.Prelude.{◌≡◌, ◌≤◌, ◌<◌, ◌+◌, ◌∷◌, [], List, ℕ, Some, None, length, drop, take, filter, IfOk, IfErr, Option};
 ghost use Rattle.std.specs.List.{prefix_len};
-ghost use Rattle.script_read.specs.Picks.{is_inside_word, words, picks_of, picks_on};
-ghost use Rattle.script_read.specs.Faults.{Scheduled, first_fault};
+ghost use Rattle.script_read.specs.Picks.{is_inside_word, is_word, words, picks_of, picks_on};
+ghost use Rattle.script_read.specs.Faults.{Scheduled, picks_fault, first_fault};
 ghost use Rattle.script_read.specs.Left.{left};
 ghost use Rattle.script_read.specs.Refusal.{Refuses};
 ghost use Rattle.script_read.specs.Script.{ArePickLines};
@@ -39,6 +39,21 @@ fn behind_word(words: &[u8]) -> &[u8]
     }
 }
 
+// Adds the pick that a word is, if it isn't empty.
+fn add_word(sessions: usize, word: &[u8], picks: &mut PickList) -> Result<bool, NoMemory>
+    requires { sessions ≤ 64 }
+    ensures { IfOk result (λ all. Adds all picks.old picks.new (picks_of sessions (filter is_word (word.now ∷ [])))) }
+{
+    if word.is_empty() {
+        return Ok(true);
+    }
+    let Some(pick) = pick_of(sessions, word) else {
+        return Ok(false);
+    };
+    picks.push(pick)?;
+    Ok(true)
+}
+
 // Adds the picks that words are, as long as all are.
 fn add_picks(sessions: usize, line: &[u8], picks: &mut PickList) -> Result<bool, NoMemory>
     requires { sessions ≤ 64 }
@@ -46,14 +61,39 @@ fn add_picks(sessions: usize, line: &[u8], picks: &mut PickList) -> Result<bool,
 {
     let mut rest = line;
     while !rest.is_empty() {
-        let word = &rest[..word_len(rest)];
-        if !word.is_empty() {
-            match pick_of(sessions, word) {
-                Some(pick) => picks.push(pick)?,
-                None => return Ok(false),
-            }
+        if !add_word(sessions, &rest[..word_len(rest)], picks)? {
+            return Ok(false);
         }
         rest = behind_word(rest);
     }
     Ok(true)
+}
+
+// Why a line of the schedule can't stand there, if it can't; else its picks are added.
+fn add_line(sessions: usize, line: &[u8], picks: &mut PickList) -> Result<Option<Why>, NoMemory>
+    requires sessions { sessions ≤ 64 }
+    requires few { length picks.old ≤ 1000000 }
+    ensures { IfOk result (λ fault. AddsLine fault sessions line.now picks.old picks.new) }
+{
+    if !is_text(line) {
+        return Ok(Some(Why::Byte));
+    }
+    if is_blank(line) {
+        return Ok(None);
+    }
+    if !add_picks(sessions, line, picks)? {
+        return Ok(Some(wrong_line(line)));
+    }
+    Ok((picks.len() > MOST_PICKS).then_some(Why::Many))
+}
+
+// Why a line that isn't picks can't stand in the schedule.
+fn wrong_line(line: &[u8]) -> Why
+    ensures { Some result ≡ picks_fault 0 line.now None }
+{
+    if begins_with_colon(line) {
+        Why::Directive
+    } else {
+        Why::Pick
+    }
 }
