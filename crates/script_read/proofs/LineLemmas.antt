@@ -1,12 +1,14 @@
 -- The lines of a text, and the text of lines.
 use Rattle.std.proofs.Common.{◌≡◌, ℕ, zero, suc, ◌+◌, ◌-◌, ◌<◌, ◌≤◌, Bool, true, false, cond, List, [], ◌∷◌, ◌++◌, length, take, drop, arith, ap, sym, ◌∙◌, refl, add-one, one-add, append_assoc, length-append, append-nil}
 use Rattle.std.proofs.lemmas.List.{length-take-le, length-drop}
-use Rattle.std.proofs.lemmas.List.Sums.{prefix_len-le-length}
+use Rattle.std.proofs.lemmas.List.Sums.{prefix_len-le-length, sum_by-append, sum_by-cons}
 use Rattle.std.proofs.lemmas.Bool.{eqb-true}
 use Rattle.std.proofs.Math.Seq.{take-append_seam, drop-append_seam}
 use Rattle.std.specs.Prelude.{◌==◌, ◌&&◌, not, flat_map}
-use Rattle.std.specs.List.{prefix_len}
-use Rattle.script_read.specs.Lines.{is_at_end, without_returns, is_inside, before_first, lines_in, with_end, ended, behind_end, joined}
+use Rattle.std.specs.List.{prefix_len, list_all, count_by}
+use Rattle.script_read.specs.Limit.{ends_before}
+use Rattle.script_read.proofs.Tests.{both_hold}
+use Rattle.script_read.specs.Lines.{is_at_end, without_returns, is_inside, is_whole, before_first, lines_in, with_end, ended, behind_end, joined}
 
 -- how many bytes the first line has
 abbrev pub line_len : List ℕ → ℕ
@@ -130,3 +132,46 @@ last_one false b e = rw e refl
 pub closed_lines : (text : List ℕ) (b : ℕ) → lines_in ((text ++ b ∷ []) ++ cond (not (b == 10)) (10 ∷ []) []) ≡ lines_in (text ++ b ∷ [])
 closed_lines [] b = last_one (b == 10) b refl
 closed_lines (c ∷ text) b = ap (λ (ls : List (List ℕ)). cond (c == 10) ([] ∷ ls) (before_first c ls)) (closed_lines text b)
+
+whole_by : (v : Bool) (b : ℕ) (lines : List (List ℕ)) → (b == 10) ≡ v → list_all is_whole lines ≡ true → list_all is_whole (cond v ([] ∷ lines) (before_first b lines)) ≡ true
+whole_by true b lines e h = h
+whole_by false b [] e h = rw e refl
+whole_by false b (line ∷ lines) e h = rw e h
+
+-- no line has an end within
+pub lines_whole : (text : List ℕ) → list_all is_whole (lines_in text) ≡ true
+lines_whole [] = refl
+lines_whole (b ∷ bs) = whole_by (b == 10) b (lines_in bs) refl (lines_whole bs)
+
+count_one : (b : ℕ) (bs : List ℕ) → count_by (λ c. c == 10) (b ∷ bs) ≡ cond (b == 10) 1 0 + count_by (λ c. c == 10) bs
+count_one b bs = sum_by-cons (λ (c : ℕ). cond (c == 10) 1 0) b bs
+
+no_ends_by : (v : Bool) (b : ℕ) (n : ℕ) → (b == 10) ≡ v → not (b == 10) ≡ true → n ≡ 0 → cond (b == 10) 1 0 + n ≡ 0
+no_ends_by true b n e h i = cc (rw e at h)
+no_ends_by false b n e h i = rw (e, i) refl
+
+no_ends : (line : List ℕ) → is_whole line ≡ true → count_by (λ b. b == 10) line ≡ 0
+no_ends [] h = refl
+no_ends (b ∷ bs) h = let parts = both_hold (is_inside b) (is_whole bs) h in count_one b bs ∙ no_ends_by (b == 10) b (count_by (λ c. c == 10) bs) refl parts.0 (no_ends bs parts.1)
+
+-- the ends in lines that are joined
+ends_behind : (lines : List (List ℕ)) → list_all is_whole lines ≡ true → count_by (λ b. b == 10) (flat_map behind_end lines) ≡ length lines
+ends_behind [] h = refl
+ends_behind (line ∷ lines) h =
+    let parts = both_hold (is_whole line) (list_all is_whole lines) h in
+    let here : count_by (λ b. b == 10) (behind_end line ++ flat_map behind_end lines) ≡ count_by (λ b. b == 10) (behind_end line) + count_by (λ b. b == 10) (flat_map behind_end lines)
+    = sum_by-append (λ (b : ℕ). cond (b == 10) 1 0) (behind_end line) (flat_map behind_end lines) in
+    omega (arith, here, count_one 10 line, no_ends line parts.0, ends_behind lines parts.1)
+
+take_fewer : (at : ℕ) (bytes : List ℕ) → ends_before at bytes ≤ count_by (λ b. b == 10) bytes
+take_fewer zero bytes = omega arith
+take_fewer (suc at) [] = omega arith
+take_fewer (suc at) (b ∷ bs) = omega (arith, count_one b bs, count_one b (take at bs), take_fewer at bs)
+
+-- fewer lines end before a place in lines that are joined than there are
+pub ends_few : (at : ℕ) (line : List ℕ) (lines : List (List ℕ)) → list_all is_whole (line ∷ lines) ≡ true → ends_before at (joined (line ∷ lines)) ≤ length lines
+ends_few at line lines h =
+    let parts = both_hold (is_whole line) (list_all is_whole lines) h in
+    let all : count_by (λ b. b == 10) (line ++ flat_map behind_end lines) ≡ count_by (λ b. b == 10) line + count_by (λ b. b == 10) (flat_map behind_end lines)
+    = sum_by-append (λ (b : ℕ). cond (b == 10) 1 0) line (flat_map behind_end lines) in
+    omega (arith, all, no_ends line parts.0, ends_behind lines parts.1, take_fewer at (joined (line ∷ lines)))

@@ -1,4 +1,5 @@
 -- Which lines some bytes are.
+use Rattle.std.specs.List.{list_all}
 use Rattle.std.specs.Prelude.{ℕ, Bool, false, ◌==◌, ◌&&◌, not, if◌then◌else◌, List, [], ◌∷◌, ◌++◌, flat_map}
 
 -- whether a line feed comes next
@@ -14,6 +15,10 @@ without_returns (b ∷ bs) = if b == 13 && is_at_end bs then without_returns bs 
 -- a byte that doesn't end a line
 abbrev pub is_inside : ℕ → Bool
 is_inside b = not (b == 10)
+
+-- a line has no end within
+abbrev pub is_whole : List ℕ → Bool
+is_whole line = list_all is_inside line
 
 -- a byte in front of the first line
 abbrev pub before_first : ℕ → List (List ℕ) → List (List ℕ)

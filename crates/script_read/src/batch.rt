@@ -1,7 +1,8 @@
 //! Taking a batch off the lines that are left.
 
 ghost use Rattle.std.specs.Prelude.{◌≡◌, ◌≤◌, ◌<◌, ◌+◌, ◌-◌, ◌∷◌, [], List, ℕ, Option, Some, None, true, false, not, length, drop, take, MatchOption};
-ghost use Rattle.std.specs.List.{prefix_len};
+ghost use Rattle.std.specs.List.{list_all};
+ghost use Rattle.script_read.specs.Lines.{is_whole};
 ghost use Rattle.script_read.specs.Classes.{ends_batch};
 ghost use Rattle.script_read.specs.Left.{left};
 ghost use Rattle.script_read.specs.Taking.{noted, first_is_inner, TakesBatch};
@@ -61,6 +62,8 @@ impl<'t> Reader<'t> {
     pub(crate) fn batch(&mut self) -> Batch<'t>
         ensures takes { TakesBatch result.bytes.now result.line result.bad self.old.line (left self.old) self.new.line (left self.new) }
         ensures counted { result.line + length result.bytes.now ≤ 4294967295 }
+        ensures begun { 1 ≤ result.line }
+        ensures whole { list_all is_whole (left self.old) ≡ true }
     {
         let (start, line) = (self.rest(), self.line);
         let mut bad = None;

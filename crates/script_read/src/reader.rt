@@ -99,6 +99,7 @@ pub(crate) struct Reader<'t> {
     ghost whole: { rest.now ≡ ended (lines_in rest.now) },
     ghost counted: { line + length rest.now ≤ 4294967296 },
     ghost numbered: { line + length (lines_in rest.now) ≤ 4294967295 },
+    ghost begun: { 1 ≤ line },
 }
 
 #[tactic(auto, unfolding(crate::specs::Left::left))]
@@ -125,6 +126,7 @@ impl<'t> Reader<'t> {
         ensures whole { result.now ≡ ended (left self.now) }
         ensures counted { self.now.line + length result.now ≤ 4294967296 }
         ensures numbered { self.now.line ≤ 4294967295 }
+        ensures begun { 1 ≤ self.now.line }
     {
         self.rest
     }

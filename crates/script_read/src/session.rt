@@ -58,7 +58,8 @@ fn ends_before(at: usize, bytes: &[u8]) -> usize
 
 // The line on which a statement of a batch begins, by its number from 0. Only memory can lack where the batch has it.
 fn line_of(alloc: Global, batch: &Batch, number: usize) -> Result<u32, ScriptRefusal>
-    requires { batch.now.line + length batch.now.bytes.now ≤ 4294967295 }
+    requires counted { batch.now.line + length batch.now.bytes.now ≤ 4294967295 }
+    requires begun { 1 ≤ batch.now.line }
     ensures ok { IfOk result (Begins batch.now.bytes.now batch.now.line number) }
     ensures memory { IfErr result (λ e. e ≡ Memory) }
 {
@@ -76,6 +77,7 @@ fn past_limit(
     count: usize,
 ) -> Result<Option<u32>, ScriptRefusal>
     requires counted { batch.now.line + length batch.now.bytes.now ≤ 4294967295 }
+    requires begun { 1 ≤ batch.now.line }
     requires few { said ≤ 20000 }
     ensures ok { IfOk result (λ past. PastIn past batch.now.bytes.now batch.now.line said count) }
     ensures memory { IfErr result (λ e. e ≡ Memory) }

@@ -2,6 +2,7 @@ use Rattle.std.proofs.Common.{◌≡◌, ◌∙◌, ◌++◌, ◌-◌, length, a
 use Rattle.script_read.specs.Left.{left}
 use Rattle.script_read.specs.Lines.{ended}
 use Rattle.script_read.specs.Taking.{first_is_inner}
+use Rattle.script_read.proofs.LineLemmas.{lines_whole}
 use Rattle.script_read.proofs.Takings.{took_more, took_bytes, no_value}
 use Rattle.script_read.proofs.reader.Reader.batch.Goals as goal
 
@@ -18,4 +19,8 @@ returns-clause-takes c =
     }
 
 pub returns-clause-counted : goal.returns-clause-counted
-returns-clause-counted c = omega (arith, c.front_of.ensures, length-take (length c.rest-start.result.now - length c.rest.result.now - 1) c.rest-start.result.now, c.rest-start.ensures.counted, c.rest-start.ensures.numbered)
+returns-clause-counted c = omega (arith, ap length c.front_of.ensures, length-take (length c.rest-start.result.now - length c.rest.result.now - 1) c.rest-start.result.now, c.rest-start.ensures.counted, c.rest-start.ensures.numbered)
+
+pub returns-clause-whole : goal.returns-clause-whole
+unfolding left
+returns-clause-whole c = lines_whole c.args.self.now.rest.now
