@@ -143,9 +143,7 @@ fault_from place number (line ∷ lines) f e = or_later_from number number f (fa
 pub record Facts (said number next : ℕ) (lines new : List (List ℕ)) (stmts : List Stmt) : Type 0 where
   pub inner : list_all is_inner lines ≡ true
   pub stops : first_is_inner new ≡ false
-  pub whole : list_all is_whole lines ≡ true
   pub says : Says lines stmts
-  pub few : said ≤ 20000
   pub next_is : next ≡ number + length lines
 
 -- the batches of these lines
@@ -215,34 +213,34 @@ both_refused false n said number next bad past lines new stmts refusal h over be
         (λ f g. let line : bad ≡ f.line = ap (λ (o : Option Fault). line_of o bad) (sym form ∙ g) in omega (arith, line, leb-false bad past e)))
 
 pub batch_refused : (n said number next : ℕ) (lines new : List (List ℕ)) (stmts : List Stmt) (bad past : Option ℕ) (refusal : ScriptRefusal) → Facts said number next lines new stmts
-    → bad ≡ first_bad None number lines → PastIn past (joined lines) number said (length stmts) → refusal_by bad past ≡ Some refusal → RefusesBatch n said number (lines ++ new) refusal
-batch_refused n said number next lines new stmts None None refusal h e p r = cc
-batch_refused n said number next lines new stmts None (Some past) refusal h e p r =
+    → list_all is_whole lines ≡ true → said ≤ 20000 → bad ≡ first_bad None number lines → PastIn past (joined lines) number said (length stmts) → refusal_by bad past ≡ Some refusal → RefusesBatch n said number (lines ++ new) refusal
+batch_refused n said number next lines new stmts None None refusal h whole few e p r = cc
+batch_refused n said number next lines new stmts None (Some past) refusal h whole few e p r =
     let same : Refused past why.Many ≡ refusal = cc in
     let form : first_fault (Within n) number (lines ++ new) ≡ first_fault (Within n) (number + length lines) new = batch_form n number lines new h.inner ∙ ap (λ (o : Option ℕ). or_bad o (first_fault (Within n) (number + length lines) new)) (sym e) in
-    let within : past < number + length lines = past_within said past number lines stmts h.whole h.says h.few p.0 p.1 in
+    let within : past < number + length lines = past_within said past number lines stmts whole h.says few p.0 p.1 in
     subst (λ (x : ScriptRefusal). Refuses (Within n) said number (lines ++ new) x) same
     (by_count past (past_join n said number next past lines new stmts h (inr p)) (λ m q. let at : past ≡ m = past_at n said number next past m lines new stmts h p.0 p.1 q in omega (arith, at))
         (λ f g. omega (arith, within, fault_from (Within n) (number + length lines) new f (sym form ∙ g))))
-batch_refused n said number next lines new stmts (Some bad) None refusal h e p r =
+batch_refused n said number next lines new stmts (Some bad) None refusal h whole few e p r =
     let same : Refused bad why.Byte ≡ refusal = cc in
     let form : first_fault (Within n) number (lines ++ new) ≡ Some (fault bad why.Byte) = batch_form n number lines new h.inner ∙ ap (λ (o : Option ℕ). or_bad o (first_fault (Within n) (number + length lines) new)) (sym e) in
     let before : bad < next = omega (arith, bad_there bad number lines (sym e), h.next_is) in
     subst (λ (x : ScriptRefusal). Refuses (Within n) said number (lines ++ new) x) same
     (by_form bad why.Byte form (λ m q. bad_first n said number next bad m lines new stmts h before p q))
-batch_refused n said number next lines new stmts (Some bad) (Some past) refusal h e p r =
+batch_refused n said number next lines new stmts (Some bad) (Some past) refusal h whole few e p r =
     let form : first_fault (Within n) number (lines ++ new) ≡ Some (fault bad why.Byte) = batch_form n number lines new h.inner ∙ ap (λ (o : Option ℕ). or_bad o (first_fault (Within n) (number + length lines) new)) (sym e) in
     both_refused (nat_le bad past) n said number next bad past lines new stmts refusal h p.0 p.1 form refl r
 
 -- what is known of a batch that was taken
-pub taken_facts : (bytes : List ℕ) (line : ℕ) (bad : Option ℕ) (said number next : ℕ) (old new : List (List ℕ)) (stmts : List Stmt) (h : TakesBatch bytes line bad number old next new)
-    → list_all is_whole old ≡ true → said ≤ 20000 → SaysText bytes stmts → Facts said number next h.lines new stmts
-taken_facts bytes line bad said number next old new stmts h whole few says =
-    let parts : (list_all is_whole h.lines && list_all is_whole new) ≡ true = sym (list_all-append is_whole h.lines new) ∙ ap (list_all is_whole) (sym h.split) ∙ whole in
-    record {
-      inner = h.inner; stops = h.stops; whole = (both_hold (list_all is_whole h.lines) (list_all is_whole new) parts).0;
-      says = subst (λ (text : List ℕ). SaysText text stmts) h.bytes_are says; few = few; next_is = h.next_is;
-    }
+taken_facts : (bytes : List ℕ) (line : ℕ) (bad : Option ℕ) (said number next : ℕ) (old new : List (List ℕ)) (stmts : List Stmt) (h : TakesBatch bytes line bad number old next new)
+    → SaysText bytes stmts → Facts said number next h.lines new stmts
+taken_facts bytes line bad said number next old new stmts h says = record { inner = h.inner; stops = h.stops; says = subst (λ (text : List ℕ). SaysText text stmts) h.bytes_are says; next_is = h.next_is }
+
+taken_whole : (lines old new : List (List ℕ)) → old ≡ lines ++ new → list_all is_whole old ≡ true → list_all is_whole lines ≡ true
+taken_whole lines old new split whole =
+    let parts : (list_all is_whole lines && list_all is_whole new) ≡ true = sym (list_all-append is_whole lines new) ∙ ap (list_all is_whole) (sym split) ∙ whole in
+    (both_hold (list_all is_whole lines) (list_all is_whole new) parts).0
 
 past_of : (bytes text : List ℕ) (line number said count most : ℕ) (past : Option ℕ) → bytes ≡ text → line ≡ number → count ≡ most → PastIn past bytes line said count → PastIn past text number said most
 past_of bytes text line number said count most past e f g h = rw (← e, ← f, ← g) h
@@ -251,9 +249,9 @@ pub taken_refused : (n : ℕ) (bytes : List ℕ) (line : ℕ) (bad past : Option
     → TakesBatch bytes line bad number old next new → list_all is_whole old ≡ true → said ≤ 20000 → SaysText bytes stmts → count ≡ length stmts → PastIn past bytes line said count
     → refusal_by bad past ≡ Some refusal → Refuses (Within n) said number old refusal
 taken_refused n bytes line bad past said number next count old new stmts refusal h whole few says e p r =
-    let facts : Facts said number next h.lines new stmts = taken_facts bytes line bad said number next old new stmts h whole few says in
+    let facts : Facts said number next h.lines new stmts = taken_facts bytes line bad said number next old new stmts h says in
     subst (λ (lines : List (List ℕ)). Refuses (Within n) said number lines refusal) (sym h.split)
-    (batch_refused n said number next h.lines new stmts bad past refusal facts h.bad_is (past_of bytes (joined h.lines) line number said count (length stmts) past h.bytes_are h.line_is e p) r)
+    (batch_refused n said number next h.lines new stmts bad past refusal facts (taken_whole h.lines old new h.split whole) few h.bad_is (past_of bytes (joined h.lines) line number said count (length stmts) past h.bytes_are h.line_is e p) r)
 
 no_refusal_by : (v : Bool) (a b : Option ScriptRefusal) (x y : ScriptRefusal) → a ≡ Some x → b ≡ Some y → cond v a b ≡ None → ⊥
 no_refusal_by true a b x y e f h = cc

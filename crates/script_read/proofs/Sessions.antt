@@ -1,6 +1,6 @@
 -- How the batches of a session follow one another.
-use Rattle.std.proofs.Common.{◌≡◌, ℕ, suc, ◌+◌, ◌-◌, ◌<◌, ◌≤◌, Bool, true, false, cond, List, [], ◌∷◌, ◌++◌, length, take, drop, get_or, arith, ap, sym, ◌∙◌, refl, subst, add-zero, append_assoc, append-nil, length-append, Option}
-use Rattle.std.specs.Prelude.{Some, None, not, ◌&&◌, ◌||◌, ◌==◌, nat_le, nat_lt}
+use Rattle.std.proofs.Common.{◌≡◌, ℕ, suc, ◌+◌, ◌-◌, ◌<◌, ◌≤◌, Bool, true, false, cond, List, [], ◌∷◌, ◌++◌, length, take, drop, get_or, arith, ap, sym, ◌∙◌, refl, subst, add-zero, append_assoc, append-nil, length-append, Option, inl, inr, ◌⊎◌, Err, Result}
+use Rattle.std.specs.Prelude.{Some, None, IfErr, not, ◌&&◌, ◌||◌, ◌==◌, nat_le, nat_lt}
 use Rattle.std.specs.List.{list_all, prefix_len, slice_split, onto_first}
 use Rattle.std.specs.Char.{to_ascii_lowercase}
 use Rattle.std.proofs.lemmas.Bool.{leb-true, le-leb, ltb-true, ltb-false, eqb-true}
@@ -16,7 +16,7 @@ use Rattle.script_read.specs.Limit.{Batch, batches, Says, IsPast}
 use Rattle.script_read.specs.Refusal.{IsFirst, by_form, by_count, Refuses}
 use Rattle.script_read.specs.Script.{SayAll, IsBody}
 use Rattle.script_read.specs.Steps.{ReadsBatch, PassesGo, first_goes, later, is_over, ReadsSession}
-use Rattle.script_read.proofs.Tests.{both_hold, both, neither, not_false}
+use Rattle.script_read.proofs.Tests.{clash, both_hold, both, neither, not_false}
 use Rattle.script_read.proofs.Batches.{or_bad, batch_form, Facts, PastHere, past_split, past_join}
 
 -- what is first refused of some lines is first refused of those before, where these lead to them
@@ -78,11 +78,151 @@ go_text line h =
     = list_all-append is_text_byte (take n line) (drop n line) ∙ both (is_text (take n line)) (is_text (drop n line)) (blanks_text (take n line) (front_blank line)) (goes_text (drop n line) h) in
     rw (take-append-drop n line) at parts
 
+no_go : (bs : List ℕ) → is_go (58 ∷ bs) ≡ false
+no_go [] = refl
+no_go (b ∷ bs) = refl
+
 go_by : (v : Bool) (line : List ℕ) → begins_with_colon line ≡ v → is_go line ≡ true → begins_with_colon line ≡ false
 go_by false line e h = e
 go_by true [] e h = cc
-go_by true (b ∷ bs) e h = let same : b ≡ 58 = eqb-true b 58 e in cc (rw same at h)
+go_by true (b ∷ bs) e h = let same : b ≡ 58 = eqb-true b 58 e in absurd (clash (is_go (b ∷ bs)) h (ap (λ c. is_go (c ∷ bs)) same ∙ no_go bs))
 
 -- a line that is GO doesn't begin with a colon
 pub go_plain : (line : List ℕ) → is_go line ≡ true → begins_with_colon line ≡ false
 go_plain line h = go_by (begins_with_colon line) line refl h
+
+abbrev pub is_plain : List ℕ → Bool
+is_plain line = not (begins_with_colon line)
+
+inner_plain : (lines : List (List ℕ)) → list_all is_inner lines ≡ true → list_all is_plain lines ≡ true
+inner_plain [] h = refl
+inner_plain (line ∷ lines) h =
+    let parts = both_hold (is_inner line) (list_all is_inner lines) h in
+    both (is_plain line) (list_all is_plain lines) (rw (neither (begins_with_colon line) (is_go line) parts.0).0 refl) (inner_plain lines parts.1)
+
+inner_one : (lines : List (List ℕ)) → list_all is_inner lines ≡ true → slice_split is_go lines ≡ lines ∷ []
+inner_one [] h = refl
+inner_one (line ∷ lines) h =
+    let parts = both_hold (is_inner line) (list_all is_inner lines) h in
+    rw ((neither (begins_with_colon line) (is_go line) parts.0).1, inner_one lines parts.1) refl
+
+onto_front : (line : List ℕ) (parts more : List (List (List ℕ))) (first : List (List ℕ)) → onto_first line ((first ∷ parts) ++ more) ≡ onto_first line (first ∷ parts) ++ more
+onto_front line parts more first = refl
+
+-- the parts of a list are never none
+pub record HasFirst (parts : List (List (List ℕ))) : Type 0 where
+  pub first : List (List ℕ)
+  pub others : List (List (List ℕ))
+  pub is : parts ≡ first ∷ others
+
+first_by : (v : Bool) (line : List ℕ) (parts : List (List (List ℕ))) → HasFirst parts → HasFirst (cond v ([] ∷ parts) (onto_first line parts))
+first_by true line parts h = record { first = []; others = parts; is = refl }
+first_by false line parts h = record { first = line ∷ h.first; others = h.others; is = rw h.is refl }
+
+has_first : (lines : List (List ℕ)) → HasFirst (slice_split is_go lines)
+has_first [] = record { first = []; others = []; is = refl }
+has_first (line ∷ lines) = first_by (is_go line) line (slice_split is_go lines) (has_first lines)
+
+split_by : (v : Bool) (line : List ℕ) (parts more : List (List (List ℕ))) → HasFirst parts → cond v ([] ∷ (parts ++ more)) (onto_first line (parts ++ more)) ≡ cond v ([] ∷ parts) (onto_first line parts) ++ more
+split_by true line parts more h = refl
+split_by false line parts more h = rw h.is refl
+
+-- a line that is GO parts the batches before it from those behind it
+split_at_go : (lines more : List (List ℕ)) (go : List ℕ) → is_go go ≡ true → slice_split is_go (lines ++ go ∷ more) ≡ slice_split is_go lines ++ slice_split is_go more
+split_at_go [] more go h = rw h refl
+split_at_go (line ∷ lines) more go h =
+    ap (λ (ps : List (List (List ℕ))). cond (is_go line) ([] ∷ ps) (onto_first line ps)) (split_at_go lines more go h) ∙ split_by (is_go line) line (slice_split is_go lines) (slice_split is_go more) (has_first lines)
+
+say_append : (parts more : List (List (List ℕ))) (s t : List Stmt) → SayAll parts s → SayAll more t → SayAll (parts ++ more) (s ++ t)
+say_append [] more s t h i = rw h i
+say_append (part ∷ parts) more s t (first, rest, split, says, others) i = (first, rest ++ t, ap (λ (u : List Stmt). u ++ t) split ∙ append_assoc first rest t, says, say_append parts more rest t others i)
+
+-- batches of a session were read, and a line that ends one comes, or none
+pub record Reading (said : ℕ) (stmts : List Stmt) (number : ℕ) (old : List (List ℕ)) (next : ℕ) (new : List (List ℕ)) : Type 0 where
+  pub body : List (List ℕ)
+  pub split : old ≡ body ++ new
+  pub plain : list_all is_plain body ≡ true
+  pub says : SayAll (slice_split is_go body) stmts
+  pub stops : first_is_inner new ≡ false
+  pub few : said + length stmts ≤ 20000
+  pub form : (n : ℕ) → first_fault (Within n) number old ≡ first_fault (Within n) next new
+  pub past : (n m : ℕ) → IsPast said (batches (Within n) number old) m → IsPast (said + length stmts) (later (Within n) next new) m
+  pub back : (n m : ℕ) → IsPast (said + length stmts) (later (Within n) next new) m → IsPast said (batches (Within n) number old) m
+
+batch_facts : (said : ℕ) (stmts : List Stmt) (number : ℕ) (old : List (List ℕ)) (next : ℕ) (new : List (List ℕ)) (h : ReadsBatch said stmts number old next new) → Facts said number next h.lines new stmts
+batch_facts said stmts number old next new h = record { inner = h.inner; stops = h.stops; says = h.says; next_is = h.next_is }
+
+past_one : (n m said : ℕ) (stmts : List Stmt) (number : ℕ) (old : List (List ℕ)) (next : ℕ) (new : List (List ℕ)) → ReadsBatch said stmts number old next new
+    → IsPast said (batches (Within n) number old) m → IsPast (said + length stmts) (later (Within n) next new) m
+past_one n m said stmts number old next new h p =
+    let q : IsPast said (batches (Within n) number (h.lines ++ new)) m = subst (λ (ls : List (List ℕ)). IsPast said (batches (Within n) number ls) m) h.split p in
+    elim (past_split n said number next m h.lines new stmts (batch_facts said stmts number old next new h) q) [
+      | inl r ↦ r.1
+      | inr r ↦ absurd (omega (arith, r.0, h.few))
+    ]
+
+back_one : (n m said : ℕ) (stmts : List Stmt) (number : ℕ) (old : List (List ℕ)) (next : ℕ) (new : List (List ℕ)) → ReadsBatch said stmts number old next new
+    → IsPast (said + length stmts) (later (Within n) next new) m → IsPast said (batches (Within n) number old) m
+back_one n m said stmts number old next new h p =
+    subst (λ (ls : List (List ℕ)). IsPast said (batches (Within n) number ls) m) (sym h.split) (past_join n said number next m h.lines new stmts (batch_facts said stmts number old next new h) (inl (h.few, p)))
+
+-- one batch was read
+pub reading_one : (said : ℕ) (stmts : List Stmt) (number : ℕ) (old : List (List ℕ)) (next : ℕ) (new : List (List ℕ)) → ReadsBatch said stmts number old next new → Reading said stmts number old next new
+reading_one said stmts number old next new h = record {
+  body = h.lines; split = h.split; plain = inner_plain h.lines h.inner; stops = h.stops; few = h.few;
+  says = rw (inner_one h.lines h.inner) (stmts, [], sym (append-nil stmts), h.says, refl);
+  form = λ n. ap (first_fault (Within n) number) h.split ∙ batch_form n number h.lines new h.inner ∙ ap (λ (o : Option ℕ). or_bad o (first_fault (Within n) (number + length h.lines) new)) h.text ∙ ap (λ k. first_fault (Within n) k new) (sym h.next_is);
+  past = λ n m p. past_one n m said stmts number old next new h p;
+  back = λ n m p. back_one n m said stmts number old next new h p;
+}
+
+go_form : (n number : ℕ) (go : List ℕ) (lines : List (List ℕ)) → is_go go ≡ true → first_fault (Within n) number (go ∷ lines) ≡ first_fault (Within n) (number + 1) lines
+go_form n number go lines h = rw (go_text go h, go_plain go h) refl
+
+go_later : (n number : ℕ) (go : List ℕ) (lines : List (List ℕ)) → is_go go ≡ true → later (Within n) number (go ∷ lines) ≡ batches (Within n) (number + 1) lines
+go_later n number go lines h = rw (go_plain go h) refl
+
+-- behind GO more were read
+pub reading_more : (said : ℕ) (stmts more : List Stmt) (number mid next : ℕ) (old rest new : List (List ℕ)) (go : List ℕ) → Reading said stmts number old mid (go ∷ rest) → is_go go ≡ true
+    → Reading (said + length stmts) more (mid + 1) rest next new → Reading said (stmts ++ more) number old next new
+reading_more said stmts more number mid next old rest new go h is i =
+    let long : said + length stmts + length more ≡ said + length (stmts ++ more) = simp length-append (omega arith) in
+    record {
+      body = h.body ++ go ∷ i.body;
+      split = h.split ∙ ap (λ (ls : List (List ℕ)). h.body ++ go ∷ ls) i.split ∙ sym (append_assoc h.body (go ∷ i.body) new);
+      plain = list_all-append is_plain h.body (go ∷ i.body) ∙ both (list_all is_plain h.body) (list_all is_plain (go ∷ i.body)) h.plain (both (is_plain go) (list_all is_plain i.body) (rw (go_plain go is) refl) i.plain);
+      says = rw (split_at_go h.body i.body go is) (say_append (slice_split is_go h.body) (slice_split is_go i.body) stmts more h.says i.says);
+      stops = i.stops;
+      few = omega (arith, long, i.few);
+      form = λ n. h.form n ∙ go_form n mid go rest is ∙ i.form n;
+      past = λ n m p. subst (λ k. IsPast k (later (Within n) next new) m) long (i.past n m (subst (λ (bs : List Batch). IsPast (said + length stmts) bs m) (go_later n mid go rest is) (h.past n m p)));
+      back = λ n m p. h.back n m (subst (λ (bs : List Batch). IsPast (said + length stmts) bs m) (sym (go_later n mid go rest is)) (i.back n m (subst (λ k. IsPast k (later (Within n) next new) m) (sym long) p)));
+    }
+
+over_by : (v : Bool) (line : List ℕ) → begins_with_colon line ≡ v → is_inner line ≡ false → is_go line ≡ false → begins_with_colon line ≡ true
+over_by true line e h i = e
+over_by false line e h i = cc (rw (e, i) at h)
+
+over : (lines : List (List ℕ)) → first_is_inner lines ≡ false → first_goes lines ≡ false → is_over lines ≡ true
+over [] h i = refl
+over (line ∷ lines) h i = over_by (begins_with_colon line) line refl h i
+
+-- a session was read
+pub session_read : (said : ℕ) (stmts : List Stmt) (number : ℕ) (old : List (List ℕ)) (next : ℕ) (new : List (List ℕ)) → Reading said stmts number old next new → first_goes new ≡ false
+    → ReadsSession said stmts number old next new
+session_read said stmts number old next new h e = record {
+  body = h.body; split = h.split; is = record { plain = h.plain; says = h.says }; over = over new h.stops e; few = h.few; form = h.form; past = h.past; back = h.back;
+}
+
+-- what is refused behind batches of a session is refused of it
+pub session_refused : (n said number mid : ℕ) (stmts : List Stmt) (old rest : List (List ℕ)) (go : List ℕ) (e : ScriptRefusal) → Reading said stmts number old mid (go ∷ rest) → is_go go ≡ true
+    → Refuses (Within n) (said + length stmts) (mid + 1) rest e → Refuses (Within n) said number old e
+session_refused n said number mid stmts old rest go Memory h is r = tt
+session_refused n said number mid stmts old rest go (Refused line why) h is r =
+    first_on (first_fault (Within n) number old) (first_fault (Within n) (mid + 1) rest) _ _ line why (h.form n ∙ go_form n mid go rest is)
+    (λ m p. subst (λ (bs : List Batch). IsPast (said + length stmts) bs m) (go_later n mid go rest is) (h.past n m p))
+    (λ m p. h.back n m (subst (λ (bs : List Batch). IsPast (said + length stmts) bs m) (sym (go_later n mid go rest is)) p)) r
+
+-- the exit of a refusal
+pub refused_exit : {Y : Type 0} (P : ScriptRefusal → Type 0) (r : Result Y ScriptRefusal) (y e : ScriptRefusal) → r ≡ Err y → y ≡ e → P e → IfErr r P
+refused_exit {Y} P r y e h i p = subst (λ (x : Result Y ScriptRefusal). IfErr x P) (sym h) (subst P (sym i) p)
