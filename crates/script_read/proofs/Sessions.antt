@@ -226,3 +226,16 @@ session_refused n said number mid stmts old rest go (Refused line why) h is r =
 -- the exit of a refusal
 pub refused_exit : {Y : Type 0} (P : ScriptRefusal → Type 0) (r : Result Y ScriptRefusal) (y e : ScriptRefusal) → r ≡ Err y → y ≡ e → P e → IfErr r P
 refused_exit {Y} P r y e h i p = subst (λ (x : Result Y ScriptRefusal). IfErr x P) (sym h) (subst P (sym i) p)
+
+-- the same where the line that is GO was taken
+pub more_refused : (n said count number mid next : ℕ) (stmts : List Stmt) (old here rest : List (List ℕ)) (e : ScriptRefusal) → Reading said stmts number old mid here → PassesGo true mid here next rest
+    → count ≡ length stmts → Refuses (Within n) (said + count) next rest e → Refuses (Within n) said number old e
+more_refused n said count number mid next stmts old here rest e h (go, split, is, at) long r =
+    let reading : Reading said stmts number old mid (go ∷ rest) = subst (λ (ls : List (List ℕ)). Reading said stmts number old mid ls) split h in
+    session_refused n said number mid stmts old rest go e reading is (rw (← long, ← at) r)
+
+pub more_read : (said count number mid next last : ℕ) (stmts more : List Stmt) (old here rest new : List (List ℕ)) → Reading said stmts number old mid here → PassesGo true mid here next rest
+    → count ≡ length stmts → ReadsBatch (said + count) more next rest last new → Reading said (stmts ++ more) number old last new
+more_read said count number mid next last stmts more old here rest new h (go, split, is, at) long r =
+    let reading : Reading said stmts number old mid (go ∷ rest) = subst (λ (ls : List (List ℕ)). Reading said stmts number old mid ls) split h in
+    reading_more said stmts more number mid last old rest new go reading is (rw (← long, ← at) (reading_one (said + count) more next rest last new r))
