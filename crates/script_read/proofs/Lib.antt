@@ -5,3 +5,4 @@ pub mod Takings
 pub mod WordLemmas
 pub mod Batches
 pub mod Sessions
+pub mod Picking

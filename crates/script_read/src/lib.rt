@@ -9,6 +9,8 @@ mod pick;
 mod reader;
 mod refusal;
 mod schedule;
+mod script;
 mod session;
 
 pub use refusal::{ScriptRefusal, Why};
+pub use script::{Work2, read_script};

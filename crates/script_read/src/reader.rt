@@ -2,8 +2,10 @@
 
 ghost use Rattle.std.specs.Prelude.{◌≡◌, ◌≤◌, ◌<◌, ◌+◌, ◌-◌, ◌∷◌, [], List, ℕ, length, drop, take, MatchOption, IfOk, if◌then◌else◌, ◌++◌};
 ghost use Rattle.std.specs.List.{prefix_len};
+ghost use Rattle.script_read.specs.declared.refusal.ScriptRefusal.TheVariants.{Refused};
 ghost use Rattle.script_read.specs.Lines.{is_inside, is_at_end, without_returns, lines_in, lines_of, ended};
 
+use crate::{ScriptRefusal, Why};
 use page_base::NoMemory;
 use std::alloc::Global;
 
@@ -139,6 +141,16 @@ impl<'t> Reader<'t> {
             return None;
         }
         Some(first_line(self.rest))
+    }
+
+    // The refusal of the first line.
+    pub(crate) fn refused(&self, why: Why) -> ScriptRefusal
+        ensures { result ≡ Refused self.now.line why }
+    {
+        ScriptRefusal::Refused {
+            line: self.line,
+            why,
+        }
     }
 
     // Goes behind the first line.

@@ -2,12 +2,11 @@
 
 ghost use Rattle.std.specs.Prelude.{◌≡◌, ◌≤◌, ◌<◌, ◌+◌, ◌∷◌, [], List, ℕ, Some, None, length, drop, take, filter, IfOk, IfErr, Option};
 ghost use Rattle.std.specs.List.{prefix_len};
-ghost use Rattle.script_read.specs.Picks.{is_inside_word, is_word, words, picks_of, picks_on};
-ghost use Rattle.script_read.specs.Faults.{Scheduled, picks_fault, first_fault};
+ghost use Rattle.script_read.specs.Picks.{is_inside_word, is_word, words, picks_of};
+ghost use Rattle.script_read.specs.Faults.{Scheduled, picks_fault};
 ghost use Rattle.script_read.specs.Left.{left};
 ghost use Rattle.script_read.specs.Refusal.{Refuses};
-ghost use Rattle.script_read.specs.Script.{ArePickLines};
-ghost use Rattle.script_read.specs.Steps.{Adds, AddsLine};
+ghost use Rattle.script_read.specs.Steps.{Adds, AddsLine, ReadsPicks};
 
 use crate::class::{begins_with_colon, is_blank, is_text};
 use crate::pick::pick_of;
@@ -96,4 +95,24 @@ fn wrong_line(line: &[u8]) -> Why
     } else {
         Why::Pick
     }
+}
+
+// The picks of the lines that are left.
+pub(crate) fn read_schedule(
+    alloc: Global,
+    reader: &mut Reader,
+    sessions: usize,
+) -> Result<PickList, ScriptRefusal>
+    requires { sessions ≤ 64 }
+    ensures ok { IfOk result (ReadsPicks sessions reader.old.line (left reader.old)) }
+    ensures refused { IfErr result (Refuses (Scheduled sessions 0) 0 reader.old.line (left reader.old)) }
+{
+    let mut picks = PickList::new(alloc);
+    while let Some(line) = reader.peek() {
+        if let Some(why) = add_line(sessions, line, &mut picks)? {
+            return Err(reader.refused(why));
+        }
+        reader.advance();
+    }
+    Ok(picks)
 }
