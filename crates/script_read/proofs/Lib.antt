@@ -6,3 +6,5 @@ pub mod WordLemmas
 pub mod Batches
 pub mod Sessions
 pub mod Picking
+pub mod Schedules
+pub mod Whole
