@@ -6,7 +6,7 @@ use Rattle.std.specs.Str.{bytes_eq}
 use Rattle.std.proofs.lemmas.Bool.{leb-true, ltb-true, eqb-true}
 use Rattle.std.proofs.lemmas.List.Folds.{list_all-append}
 use Rattle.std.proofs.lemmas.List.Sums.{sum_by-append}
-use Rattle.std.proofs.lemmas.Slice.Eq.{bytes_eq-Decides}
+use Rattle.std.proofs.lemmas.Slice.Eq.{bytes_eq-Decides, starts_is}
 use Rattle.plain_model.specs.declared.stmt.Stmt.{Stmt}
 use Rattle.plain_model.specs.declared.pick.Pick.{Pick}
 use Rattle.script_read.specs.declared.refusal.Why.{Why}
@@ -47,13 +47,13 @@ pub skip_all : (number next : ℕ) (old here : List (List ℕ)) → Skipping num
 skip_all number next old here h e = record { front = h.front; split = h.split; skipped = h.skipped; over = e; next_is = h.next_is }
 
 -- a line in front begins no session
-front_by : (v : Bool) (b : ℕ) (bs : List ℕ) → (b == 58) ≡ v → is_skipped (b ∷ bs) ≡ true → is_session (b ∷ bs) ≡ false
-front_by true b bs e h = let same : b ≡ 58 = eqb-true b 58 e in absurd (clash (is_skipped (b ∷ bs)) h (ap (λ c. is_skipped (c ∷ bs)) same))
+front_by : (v : Bool) (b : ℕ) (bs : List ℕ) → (58 == b) ≡ v → is_skipped (b ∷ bs) ≡ true → is_session (b ∷ bs) ≡ false
+front_by true b bs e h = let same : 58 ≡ b = eqb-true 58 b e in absurd (clash (is_skipped (b ∷ bs)) h (ap (λ c. is_skipped (c ∷ bs)) (sym same)))
 front_by false b bs e h = rw e refl
 
 pub front_plain : (line : List ℕ) → is_skipped line ≡ true → is_session line ≡ false
 front_plain [] h = refl
-front_plain (b ∷ bs) h = front_by (b == 58) b bs refl h
+front_plain (b ∷ bs) h = front_by (58 == b) b bs refl h
 
 -- what stands in front can stand there, and leads on
 pub front_form : (number : ℕ) (front rest : List (List ℕ)) → list_all is_front front ≡ true → first_fault InFront number (front ++ rest) ≡ first_fault InFront (number + length front) rest
@@ -139,13 +139,13 @@ number_by true true n line e f h = (eqb-true _ _ e, omega (arith, ltb-true n 64 
 number_by true false n line e f h = cc (rw (e, f) at h)
 number_by false w n line e f h = cc (rw e at h)
 
-colon_by : (v : Bool) (b : ℕ) (bs : List ℕ) → (b == 58) ≡ v → is_session (b ∷ bs) ≡ true → (b == 58) ≡ true
-colon_by true b bs e h = e
+colon_by : (v : Bool) (b : ℕ) (bs : List ℕ) → (58 == b) ≡ v → is_session (b ∷ bs) ≡ true → (b == 58) ≡ true
+colon_by true b bs e h = let same : 58 ≡ b = eqb-true 58 b e in rw (← same) refl
 colon_by false b bs e h = cc (rw e at h)
 
 pub session_colon : (line : List ℕ) → is_session line ≡ true → begins_with_colon line ≡ true
 session_colon [] h = cc
-session_colon (b ∷ bs) h = colon_by (b == 58) b bs refl h
+session_colon (b ∷ bs) h = colon_by (58 == b) b bs refl h
 
 skipped_by : (v : Bool) (line : List ℕ) → is_skipped line ≡ v → is_session line ≡ true → is_skipped line ≡ false
 skipped_by true line e h = absurd (clash (is_session line) h (front_plain line e))
@@ -170,3 +170,109 @@ behind_by false n line e h = rw (e, session_colon line h, h) refl
 -- behind a session's line the session stands
 pub behind_heading : (n : ℕ) (line : List ℕ) → is_session line ≡ true → place_behind (place_at n) line ≡ Within (n + 1)
 behind_heading n line h = behind_by (n == 0) n line refl h
+
+-- a session's line is written so
+pub heading_is : (n : ℕ) (line : List ℕ) → is_session line ≡ true → number_of (number_part line) ≡ n → IsSession n line
+heading_is n line h e =
+    let parts = both_hold (starts_with nat_eq line session_word) (is_decimal (number_part line)) h in
+    record { digits = number_part line; line_is = (starts_is nat_eq-Decides line session_word (starts_with nat_eq line session_word) refl).0 parts.0; number = record { form = parts.1; value = e } }
+
+place_form : (n number : ℕ) (line : List ℕ) (rest : List (List ℕ)) → is_session line ≡ true → fault_of (place_at n) line ≡ None
+    → first_fault (place_at n) number (line ∷ rest) ≡ first_fault (Within (n + 1)) (number + 1) rest
+place_form n number line rest h f =
+    ap (λ (o : Option Why). or_later number o (first_fault (place_behind (place_at n) line) (number + 1) rest)) f ∙ ap (λ (p : Place). first_fault p (number + 1) rest) (behind_heading n line h)
+
+place_later : (n number : ℕ) (line : List ℕ) (rest : List (List ℕ)) → is_session line ≡ true → later (place_at n) number (line ∷ rest) ≡ batches (Within (n + 1)) (number + 1) rest
+place_later n number line rest h = ap (λ (p : Place). batches p (number + 1) rest) (behind_heading n line h)
+
+-- what is refused of a session is refused where its line begins
+pub heading_refused : (n said number next : ℕ) (lines rest : List (List ℕ)) (e : ScriptRefusal) → BeginsSession true n number lines next rest → Refuses (Within (n + 1)) said next rest e
+    → RefusesLater (place_at n) said number lines e
+heading_refused n said number next lines rest Memory b r = tt
+heading_refused n said number next lines rest (Refused line w) (heading, split, is, f, at) r =
+    let there : IsFirst (first_fault (place_at n) number (heading ∷ rest)) (IsPast said (later (place_at n) number (heading ∷ rest))) line w
+    = first_on (first_fault (place_at n) number (heading ∷ rest)) (first_fault (Within (n + 1)) (number + 1) rest) _ _ line w (place_form n number heading rest is f)
+        (λ m p. subst (λ (bs : List Batch). IsPast said bs m) (place_later n number heading rest is) p)
+        (λ m p. subst (λ (bs : List Batch). IsPast said bs m) (sym (place_later n number heading rest is)) p)
+        (subst (λ k. IsFirstOf (Within (n + 1)) said k rest line w) at r) in
+    subst (λ (ls : List (List ℕ)). IsFirst (first_fault (place_at n) number ls) (IsPast said (later (place_at n) number ls)) line w) (sym split) there
+
+-- what is refused behind sessions is refused of the script
+pub sessions_refused : (scripts : List (List Stmt)) (number next : ℕ) (old here : List (List ℕ)) (e : ScriptRefusal) → ReadsSessions scripts number old next here
+    → RefusesLater (place_at (length scripts)) (sum_by length scripts) next here e → RefusesLater InFront 0 number old e
+sessions_refused scripts number next old here Memory h r = tt
+sessions_refused scripts number next old here (Refused line w) h r = first_on _ _ _ _ line w h.form h.past h.back r
+
+over_behind : (n : ℕ) (lines : List (List ℕ)) → is_over lines ≡ true → is_behind (n + 1) lines ≡ true
+over_behind n lines h = rw not_zero h
+
+-- a session more was read
+pub sessions_more : (scripts : List (List Stmt)) (stmts : List Stmt) (said number mid next last : ℕ) (old here rest new : List (List ℕ)) → ReadsSessions scripts number old mid here
+    → BeginsSession true (length scripts) mid here next rest → said ≡ sum_by length scripts → ReadsSession said stmts next rest last new
+    → ReadsSessions (scripts ++ stmts ∷ []) number old last new
+sessions_more scripts stmts said number mid next last old here rest new h (heading, split, is, f, at) e r =
+    let n : ℕ = length scripts in
+    let number_is = heading_number n heading is f in
+    let long : length (scripts ++ stmts ∷ []) ≡ n + 1 = simp length-append refl in
+    let sum : sum_by length (scripts ++ stmts ∷ []) ≡ said + length stmts = sum_by-append length scripts (stmts ∷ []) ∙ ap (λ k. k + length stmts) (sym e) in
+    let place : place_at (length (scripts ++ stmts ∷ [])) ≡ Within (n + 1) = ap place_at long ∙ place_more n in
+    let session : IsSession (n + 1) heading = heading_is (n + 1) heading is number_is.0 in
+    record {
+      spelled = λ more picks k. subst (λ (ss : List (List Stmt)). AreSessions 0 old ss picks) (sym (append_assoc scripts (stmts ∷ []) more))
+          (h.spelled (stmts ∷ more) picks (heading, r.body, new, split ∙ ap (λ (ls : List (List ℕ)). heading ∷ ls) r.split, session, r.is, subst (λ j. AreSessions j new more picks) long k));
+      form = h.form ∙ ap (first_fault (place_at n) mid) split ∙ place_form n mid heading rest is f ∙ ap (λ k. first_fault (Within (n + 1)) k rest) (sym at) ∙ r.form (n + 1) ∙ ap (λ (p : Place). first_fault p last new) (sym place);
+      past = λ m p.
+          let one : IsPast said (later (place_at n) mid (heading ∷ rest)) m = rw e (subst (λ (ls : List (List ℕ)). IsPast (sum_by length scripts) (later (place_at n) mid ls) m) split (h.past m p)) in
+          let two : IsPast said (batches (Within (n + 1)) next rest) m = rw at (subst (λ (bs : List Batch). IsPast said bs m) (place_later n mid heading rest is) one) in
+          rw (sum, place) (r.past (n + 1) m two);
+      back = λ m p.
+          let two : IsPast said (batches (Within (n + 1)) next rest) m = r.back (n + 1) m (rw (sum, place) at p) in
+          let one : IsPast said (later (place_at n) mid (heading ∷ rest)) m = subst (λ (bs : List Batch). IsPast said bs m) (sym (place_later n mid heading rest is)) (rw at at two) in
+          h.back m (subst (λ (ls : List (List ℕ)). IsPast (sum_by length scripts) (later (place_at n) mid ls) m) (sym split) (rw e at one));
+      few = rw long number_is.1;
+      short = rw sum r.few;
+    }
+
+-- the line that begins the schedule
+schedule_place : (n : ℕ) (line : List ℕ) → is_schedule line ≡ true → 1 ≤ n → place_behind (place_at n) line ≡ Scheduled n 0
+schedule_place n line h some =
+    let plain : (n == 0) ≡ false = is_false (n == 0) (λ e. let zero : n ≡ 0 = eqb-true n 0 e in absurd (omega (arith, zero, some))) in
+    let same : line ≡ codes ":schedule" = (bytes_eq-Decides line (codes ":schedule")).0 h in
+    rw (plain, same) refl
+
+schedule_form : (n number : ℕ) (line : List ℕ) (rest : List (List ℕ)) → is_schedule line ≡ true → 1 ≤ n → fault_of (place_at n) line ≡ None
+    → first_fault (place_at n) number (line ∷ rest) ≡ first_fault (Scheduled n 0) (number + 1) rest
+schedule_form n number line rest h some f =
+    ap (λ (o : Option Why). or_later number o (first_fault (place_behind (place_at n) line) (number + 1) rest)) f ∙ ap (λ (p : Place). first_fault p (number + 1) rest) (schedule_place n line h some)
+
+pub last_read_none : (n number : ℕ) (lines : List (List ℕ)) (picks : List Pick) → lines ≡ [] → picks ≡ [] → ReadsLast n number lines picks
+last_read_none n number lines picks e f = rw (e, f) (record { form = refl; is = none; few = omega arith })
+
+-- behind its line the schedule was read
+pub last_read : (n number : ℕ) (lines rest : List (List ℕ)) (line : List ℕ) (picks : List Pick) → IsLast n lines → lines ≡ line ∷ rest → ReadsPicks n (number + 1) rest picks → ReadsLast n number lines picks
+last_read n number lines rest line picks no_line e r = cc
+last_read n number lines rest line picks (schedule_line l ls h f some) e r =
+    let tail : ls ≡ rest = cc in
+    let same : l ≡ codes ":schedule" = (bytes_eq-Decides l (codes ":schedule")).0 h in
+    let there : ReadsPicks n (number + 1) ls picks = rw tail r in
+    record {
+      form = schedule_form n number l ls h some f ∙ there.form;
+      is = rw same (schedule ls picks some there.lines_are);
+      few = there.few;
+    }
+
+pub last_refused : (n said number : ℕ) (lines rest : List (List ℕ)) (line : List ℕ) (e : ScriptRefusal) → IsLast n lines → lines ≡ line ∷ rest → Refuses (Scheduled n 0) 0 (number + 1) rest e
+    → RefusesLater (place_at n) said number lines e
+last_refused n said number lines rest line Memory k e r = tt
+last_refused n said number lines rest line (Refused at w) no_line e r = cc
+last_refused n said number lines rest line (Refused at w) (schedule_line l ls h f some) e r =
+    let tail : ls ≡ rest = cc in
+    let there : IsFirstOf (Scheduled n 0) 0 (number + 1) ls at w = rw tail r in
+    let bs : later (place_at n) number (l ∷ ls) ≡ [] = ap (λ (p : Place). batches p (number + 1) ls) (schedule_place n l h some) in
+    first_on (first_fault (place_at n) number (l ∷ ls)) (first_fault (Scheduled n 0) (number + 1) ls) _ _ at w (schedule_form n number l ls h some f)
+    (λ m p. subst (λ (cs : List Batch). IsPast said cs m) bs p) (λ m p. absurd p) there
+
+-- the value of an option that is no value
+pub none_of : {X : Type 0} (o : Option X) → ((x : X) → o ≡ Some x → ⊥) → o ≡ None
+none_of None h = refl
+none_of (Some x) h = absurd (h x refl)

@@ -103,9 +103,9 @@ fn read_last(
     ensures ok { IfOk result (ReadsLast sessions reader.old.line (left reader.old)) }
     ensures refused { IfErr result (λ e. (said : ℕ) → RefusesLater (place_at sessions) said reader.old.line (left reader.old) e) }
 {
-    if reader.peek().is_none() {
+    let Some(_line) = reader.peek() else {
         return Ok(PickList::new(alloc));
-    }
+    };
     reader.advance();
     read_schedule(alloc, reader, sessions)
 }
