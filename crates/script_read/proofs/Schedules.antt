@@ -64,3 +64,13 @@ played_all n number next old here picks h e = record {
   lines_are = subst (λ (ps : List Pick). ArePickLines n old ps) (append-nil picks) (h.lines [] (subst (λ (ls : List (List ℕ)). ArePickLines n ls []) (sym e) refl));
   few = h.few;
 }
+
+pub played_on : (n number next : ℕ) (old here rest : List (List ℕ)) (line : List ℕ) (picks new : List Pick) (o : Option Why) → ((w : Why) → o ≡ Some w → ⊥) → Played n number old picks next here → here ≡ line ∷ rest
+    → AddsLine o n line picks new → Played n number old new (next + 1) rest
+played_on n number next old here rest line picks new None none h e a = played_more n number next old here rest line picks new h e a
+played_on n number next old here rest line picks new (Some w) none h e a = absurd (none w refl)
+
+pub played_stop : (n number next : ℕ) (old here rest : List (List ℕ)) (line : List ℕ) (picks new : List Pick) (o : Option Why) (w : Why) → o ≡ Some w → Played n number old picks next here → here ≡ line ∷ rest
+    → AddsLine o n line picks new → Refuses (Scheduled n 0) 0 number old (Refused next w)
+played_stop n number next old here rest line picks new o w f h e a =
+    played_refused n number next old here rest line picks new w h e (subst (λ (x : Option Why). AddsLine x n line picks new) f a)

@@ -4,8 +4,9 @@ use Rattle.std.specs.Prelude.{Some, None, not, ◌&&◌, ◌||◌, ◌==◌, nat
 use Rattle.std.specs.List.{list_all, slice_split, starts_with}
 use Rattle.std.specs.Str.{bytes_eq}
 use Rattle.std.proofs.lemmas.Bool.{leb-true, ltb-true, eqb-true}
+use Rattle.std.proofs.lemmas.Bool.Decides.{Decides-eqb}
 use Rattle.std.proofs.lemmas.List.Folds.{list_all-append}
-use Rattle.std.proofs.lemmas.List.Sums.{sum_by-append}
+use Rattle.std.proofs.lemmas.List.Sums.{sum_by-append, sum_by-cons}
 use Rattle.std.proofs.lemmas.Slice.Eq.{bytes_eq-Decides, starts_is}
 use Rattle.plain_model.specs.declared.stmt.Stmt.{Stmt}
 use Rattle.plain_model.specs.declared.pick.Pick.{Pick}
@@ -175,7 +176,7 @@ behind_heading n line h = behind_by (n == 0) n line refl h
 pub heading_is : (n : ℕ) (line : List ℕ) → is_session line ≡ true → number_of (number_part line) ≡ n → IsSession n line
 heading_is n line h e =
     let parts = both_hold (starts_with nat_eq line session_word) (is_decimal (number_part line)) h in
-    record { digits = number_part line; line_is = (starts_is nat_eq-Decides line session_word (starts_with nat_eq line session_word) refl).0 parts.0; number = record { form = parts.1; value = e } }
+    record { digits = number_part line; line_is = (starts_is Decides-eqb line session_word (starts_with nat_eq line session_word) refl).0 parts.0; number = record { form = parts.1; value = e } }
 
 place_form : (n number : ℕ) (line : List ℕ) (rest : List (List ℕ)) → is_session line ≡ true → fault_of (place_at n) line ≡ None
     → first_fault (place_at n) number (line ∷ rest) ≡ first_fault (Within (n + 1)) (number + 1) rest
@@ -214,7 +215,7 @@ sessions_more scripts stmts said number mid next last old here rest new h (headi
     let n : ℕ = length scripts in
     let number_is = heading_number n heading is f in
     let long : length (scripts ++ stmts ∷ []) ≡ n + 1 = simp length-append refl in
-    let sum : sum_by length (scripts ++ stmts ∷ []) ≡ said + length stmts = sum_by-append length scripts (stmts ∷ []) ∙ ap (λ k. k + length stmts) (sym e) in
+    let sum : sum_by length (scripts ++ stmts ∷ []) ≡ said + length stmts = omega (arith, sum_by-append length scripts (stmts ∷ []), sum_by-cons length stmts [], e) in
     let place : place_at (length (scripts ++ stmts ∷ [])) ≡ Within (n + 1) = ap place_at long ∙ place_more n in
     let session : IsSession (n + 1) heading = heading_is (n + 1) heading is number_is.0 in
     record {
@@ -276,3 +277,42 @@ last_refused n said number lines rest line (Refused at w) (schedule_line l ls h 
 pub none_of : {X : Type 0} (o : Option X) → ((x : X) → o ≡ Some x → ⊥) → o ≡ None
 none_of None h = refl
 none_of (Some x) h = absurd (h x refl)
+
+-- so many sessions and statements were read, and no line of the last session is left
+pub record AtHeading (scripts : List (List Stmt)) (said number : ℕ) (old : List (List ℕ)) (next : ℕ) (new : List (List ℕ)) : Type 0 where
+  pub sessions : ReadsSessions scripts number old next new
+  pub behind : is_behind (length scripts) new ≡ true
+  pub counted : said ≡ sum_by length scripts
+
+pub heading_none : (number : ℕ) (old : List (List ℕ)) → is_front_over old ≡ true → AtHeading [] 0 number old number old
+heading_none number old h = record { sessions = sessions_none number old; behind = h; counted = refl }
+
+heading_few : (n number next : ℕ) (lines rest : List (List ℕ)) → BeginsSession true n number lines next rest → n + 1 ≤ 64
+heading_few n number next lines rest (heading, split, is, f, at) = (heading_number n heading is f).1
+
+pub heading_room : (scripts : List (List Stmt)) (began : Bool) (count number next : ℕ) (lines rest : List (List ℕ)) → began ≡ true → count ≡ length scripts → BeginsSession began count number lines next rest → length scripts < 64
+heading_room scripts began count number next lines rest e f b = omega (arith, heading_few (length scripts) number next lines rest (rw (e, f) at b))
+
+pub heading_more : (scripts : List (List Stmt)) (stmts : List Stmt) (began : Bool) (count len said number mid next last : ℕ) (old here rest new : List (List ℕ)) → AtHeading scripts said number old mid here
+    → began ≡ true → count ≡ length scripts → BeginsSession began count mid here next rest → ReadsSession said stmts next rest last new → len ≡ length stmts
+    → AtHeading (scripts ++ stmts ∷ []) (said + len) number old last new
+heading_more scripts stmts began count len said number mid next last old here rest new h e f b r g =
+    let begins : BeginsSession true (length scripts) mid here next rest = rw (e, f) at b in
+    let long : length (scripts ++ stmts ∷ []) ≡ length scripts + 1 = simp length-append refl in
+    record {
+      sessions = sessions_more scripts stmts said number mid next last old here rest new h.sessions begins h.counted r;
+      behind = rw long (over_behind (length scripts) new r.over);
+      counted = omega (arith, sum_by-append length scripts (stmts ∷ []), sum_by-cons length stmts [], h.counted, g);
+    }
+
+-- a refusal of the line that begins a session, or of the session behind it
+pub heading_refuses : (scripts : List (List Stmt)) (count said number mid : ℕ) (old here : List (List ℕ)) (e : ScriptRefusal) → AtHeading scripts said number old mid here → count ≡ length scripts
+    → ((all : ℕ) → RefusesLater (place_at count) all mid here e) → RefusesLater InFront 0 number old e
+heading_refuses scripts count said number mid old here e h f r = sessions_refused scripts number mid old here e h.sessions (rw f at (r (sum_by length scripts)))
+
+pub session_refuses : (scripts : List (List Stmt)) (began : Bool) (count said number mid next : ℕ) (old here rest : List (List ℕ)) (e : ScriptRefusal) → AtHeading scripts said number old mid here
+    → began ≡ true → count ≡ length scripts → BeginsSession began count mid here next rest → ((n : ℕ) → Refuses (Within n) said next rest e) → RefusesLater InFront 0 number old e
+session_refuses scripts began count said number mid next old here rest e h g f b r =
+    let n : ℕ = length scripts in
+    let begins : BeginsSession true n mid here next rest = rw (g, f) at b in
+    sessions_refused scripts number mid old here e h.sessions (subst (λ k. RefusesLater (place_at n) k mid here e) h.counted (heading_refused n said mid next here rest e begins (r (n + 1))))
