@@ -8,3 +8,5 @@ pub mod Sessions
 pub mod Picking
 pub mod Schedules
 pub mod Whole
+pub mod Written
+pub mod Exclusive

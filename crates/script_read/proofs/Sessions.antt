@@ -119,7 +119,7 @@ first_by : (v : Bool) (line : List ℕ) (parts : List (List (List ℕ))) → Has
 first_by true line parts h = record { first = []; others = parts; is = refl }
 first_by false line parts h = record { first = line ∷ h.first; others = h.others; is = rw h.is refl }
 
-has_first : (lines : List (List ℕ)) → HasFirst (slice_split is_go lines)
+pub has_first : (lines : List (List ℕ)) → HasFirst (slice_split is_go lines)
 has_first [] = record { first = []; others = []; is = refl }
 has_first (line ∷ lines) = first_by (is_go line) line (slice_split is_go lines) (has_first lines)
 

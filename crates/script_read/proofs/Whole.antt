@@ -128,7 +128,7 @@ last_none n lines e = subst (λ (ls : List (List ℕ)). IsLast n ls) (sym e) no_
 pub sessions_none : (number : ℕ) (old : List (List ℕ)) → ReadsSessions [] number old number old
 sessions_none number old = record { spelled = λ more picks h. h; form = refl; past = λ m p. p; back = λ m p. p; few = omega arith; short = omega arith }
 
-not_zero : (n : ℕ) → (n + 1 == 0) ≡ false
+pub not_zero : (n : ℕ) → (n + 1 == 0) ≡ false
 not_zero n = is_false (n + 1 == 0) (λ e. let same : n + 1 ≡ 0 = eqb-true (n + 1) 0 e in absurd (omega (arith, same)))
 
 pub place_more : (n : ℕ) → place_at (n + 1) ≡ Within (n + 1)
@@ -178,12 +178,12 @@ heading_is n line h e =
     let parts = both_hold (starts_with nat_eq line session_word) (is_decimal (number_part line)) h in
     record { digits = number_part line; line_is = (starts_is Decides-eqb line session_word (starts_with nat_eq line session_word) refl).0 parts.0; number = record { form = parts.1; value = e } }
 
-place_form : (n number : ℕ) (line : List ℕ) (rest : List (List ℕ)) → is_session line ≡ true → fault_of (place_at n) line ≡ None
+pub place_form : (n number : ℕ) (line : List ℕ) (rest : List (List ℕ)) → is_session line ≡ true → fault_of (place_at n) line ≡ None
     → first_fault (place_at n) number (line ∷ rest) ≡ first_fault (Within (n + 1)) (number + 1) rest
 place_form n number line rest h f =
     ap (λ (o : Option Why). or_later number o (first_fault (place_behind (place_at n) line) (number + 1) rest)) f ∙ ap (λ (p : Place). first_fault p (number + 1) rest) (behind_heading n line h)
 
-place_later : (n number : ℕ) (line : List ℕ) (rest : List (List ℕ)) → is_session line ≡ true → later (place_at n) number (line ∷ rest) ≡ batches (Within (n + 1)) (number + 1) rest
+pub place_later : (n number : ℕ) (line : List ℕ) (rest : List (List ℕ)) → is_session line ≡ true → later (place_at n) number (line ∷ rest) ≡ batches (Within (n + 1)) (number + 1) rest
 place_later n number line rest h = ap (λ (p : Place). batches p (number + 1) rest) (behind_heading n line h)
 
 -- what is refused of a session is refused where its line begins
@@ -235,13 +235,13 @@ sessions_more scripts stmts said number mid next last old here rest new h (headi
     }
 
 -- the line that begins the schedule
-schedule_place : (n : ℕ) (line : List ℕ) → is_schedule line ≡ true → 1 ≤ n → place_behind (place_at n) line ≡ Scheduled n 0
+pub schedule_place : (n : ℕ) (line : List ℕ) → is_schedule line ≡ true → 1 ≤ n → place_behind (place_at n) line ≡ Scheduled n 0
 schedule_place n line h some =
     let plain : (n == 0) ≡ false = is_false (n == 0) (λ e. let zero : n ≡ 0 = eqb-true n 0 e in absurd (omega (arith, zero, some))) in
     let same : line ≡ codes ":schedule" = (bytes_eq-Decides line (codes ":schedule")).0 h in
     rw (plain, same) refl
 
-schedule_form : (n number : ℕ) (line : List ℕ) (rest : List (List ℕ)) → is_schedule line ≡ true → 1 ≤ n → fault_of (place_at n) line ≡ None
+pub schedule_form : (n number : ℕ) (line : List ℕ) (rest : List (List ℕ)) → is_schedule line ≡ true → 1 ≤ n → fault_of (place_at n) line ≡ None
     → first_fault (place_at n) number (line ∷ rest) ≡ first_fault (Scheduled n 0) (number + 1) rest
 schedule_form n number line rest h some f =
     ap (λ (o : Option Why). or_later number o (first_fault (place_behind (place_at n) line) (number + 1) rest)) f ∙ ap (λ (p : Place). first_fault p (number + 1) rest) (schedule_place n line h some)
@@ -316,3 +316,7 @@ session_refuses scripts began count said number mid next old here rest e h g f b
     let n : ℕ = length scripts in
     let begins : BeginsSession true n mid here next rest = rw (g, f) at b in
     sessions_refused scripts number mid old here e h.sessions (subst (λ k. RefusesLater (place_at n) k mid here e) h.counted (heading_refused n said mid next here rest e begins (r (n + 1))))
+
+-- a session's line isn't skipped
+pub skipped_no : (line : List ℕ) → is_session line ≡ true → is_skipped line ≡ false
+skipped_no line h = skipped_by (is_skipped line) line refl h
