@@ -1,28 +1,30 @@
 -- No line of a script is refused.
-use Rattle.std.proofs.Common.{◌≡◌, ℕ, zero, suc, ◌+◌, ◌-◌, ◌<◌, ◌≤◌, Bool, true, false, cond, List, [], ◌∷◌, ◌++◌, length, take, drop, map, arith, ap, sym, ◌∙◌, refl, subst, add-zero, append_assoc, length-append, inl, inr, ◌⊎◌, Option}
+use Rattle.std.proofs.Common.{◌≡◌, ℕ, zero, suc, ◌+◌, ◌-◌, ◌<◌, ◌≤◌, Bool, true, false, cond, List, [], ◌∷◌, ◌++◌, length, take, drop, map, arith, ap, sym, ◌∙◌, refl, subst, add-zero, append_assoc, length-append, inl, inr, ◌⊎◌, Option, eq-eqb, append-nil}
 use Rattle.std.specs.Prelude.{Some, None, not, ◌&&◌, ◌==◌, nat_eq, nat_le, nat_lt, sum_by, codes}
 use Rattle.std.specs.List.{list_all, slice_split, onto_first, starts_with}
-use Rattle.std.proofs.lemmas.Bool.{le-leb, lt-ltb, eqb-refl, eqb-true}
+use Rattle.std.proofs.lemmas.Bool.{le-leb, lt-ltb, eqb-true}
 use Rattle.std.proofs.lemmas.List.Folds.{list_all-append}
 use Rattle.std.proofs.lemmas.List.Sums.{sum_by-cons}
 use Rattle.plain_model.specs.declared.stmt.Stmt.{Stmt}
 use Rattle.plain_model.specs.declared.pick.Pick.{Pick}
 use Rattle.script_read.specs.declared.refusal.Why.{Why}
+use Rattle.script_read.specs.declared.refusal.ScriptRefusal.{ScriptRefusal}
+use Rattle.script_read.specs.declared.refusal.ScriptRefusal.TheVariants.{Refused, Memory}
 use Rattle.script_read.specs.Lines.{lines_of, joined}
 use Rattle.script_read.specs.Decimal.{is_decimal, number_of, IsDecimal}
 use Rattle.script_read.specs.Classes.{is_text, is_skipped, begins_with_colon, is_go, ends_batch, session_word, number_part, is_session, IsSession, is_schedule}
 use Rattle.script_read.specs.Picks.{picks_on}
 use Rattle.script_read.specs.Taking.{is_inner, first_is_inner}
-use Rattle.script_read.specs.Faults.{Place, InFront, Within, Scheduled, place_behind, session_fault, fault_of, Fault, fault, first_fault}
-use Rattle.script_read.specs.Limit.{Batch, batch_at, grown, batches, Says, IsPast}
-use Rattle.script_read.specs.Refusal.{IsFirst, by_form, by_count, IsFirstOf}
+use Rattle.script_read.specs.Faults.{Place, InFront, Within, Scheduled, place_behind, session_fault, fault_of, Fault, fault, or_later, first_fault}
+use Rattle.script_read.specs.Limit.{Batch, batch_at, grown, batches, Says, Begins, IsPast}
+use Rattle.script_read.specs.Refusal.{IsFirst, by_form, by_count, IsFirstOf, IsRefusal}
 use Rattle.script_read.specs.Script.{SayAll, IsBody, ArePickLines, IsSchedule, none, schedule, AreSessions, IsScript}
-use Rattle.script_read.specs.Steps.{later, is_over, place_at, is_front}
+use Rattle.script_read.specs.Steps.{later, is_over, place_at, is_front, SkipsFront, RefusesLater, ReadsSessions, ReadsLast}
 use Rattle.script_read.proofs.Tests.{clash, both_hold, both, is_false, not_true}
 use Rattle.script_read.proofs.Batches.{batches_split, says_one}
-use Rattle.script_read.proofs.Sessions.{is_plain, HasFirst, has_first}
+use Rattle.script_read.proofs.Sessions.{is_plain, HasFirst, has_first, first_on}
 use Rattle.script_read.proofs.Written.{on_found}
-use Rattle.script_read.proofs.Whole.{place_more, not_zero, place_form, place_later, schedule_form, schedule_place, front_form, front_batches, front_later, session_colon, skipped_no}
+use Rattle.script_read.proofs.Whole.{place_more, not_zero, place_form, place_later, schedule_form, schedule_place, front_form, front_batches, front_later, session_colon, skipped_no, text_of, sessions_refused}
 
 -- lines of picks can stand in the schedule
 pick_lines_form : (n before number : ℕ) (lines : List (List ℕ)) (picks : List Pick) → ArePickLines n lines picks → list_all is_text lines ≡ true → before + length picks ≤ 1000000
@@ -41,7 +43,7 @@ heading_found n line h = rw h.line_is (h.number.form, h.number.value)
 
 session_ok : (n : ℕ) (line : List ℕ) → number_of (number_part line) ≡ n + 1 → n + 1 ≤ 64 → session_fault n line ≡ None
 session_ok n line e few =
-    let same : (number_of (number_part line) == n + 1) ≡ true = rw e (eqb-refl (n + 1)) in
+    let same : (number_of (number_part line) == n + 1) ≡ true = eq-eqb (number_of (number_part line)) (n + 1) e in
     let below : nat_lt n 64 ≡ true = lt-ltb n 64 (omega (arith, few)) in
     rw (same, below) refl
 
@@ -120,7 +122,7 @@ parted n number (line ∷ body) rest plain over =
     parted_by (is_go line) n number line body rest refl (not_true (begins_with_colon line) parts.0) (parted n (number + 1) body rest parts.1 over)
 
 past_by : (said m : ℕ) (part : Batch) (more : List Batch) (us first : List Stmt) → us ≡ first → said + length first ≤ 20000
-    → ((said + length us ≤ 20000) × IsPast (said + length us) more m) ⊎ ((20000 < said + length us) × _) → IsPast (said + length first) more m
+    → ((said + length us ≤ 20000) × IsPast (said + length us) more m) ⊎ ((20000 < said + length us) × Begins (joined part.lines) part.line (20000 - said) m) → IsPast (said + length first) more m
 past_by said m part more us first e few (inl p) = subst (λ (s : List Stmt). IsPast (said + length s) more m) e p.1
 past_by said m part more us first e few (inr p) = absurd (omega (arith, p.0, few, ap length e))
 
@@ -183,3 +185,60 @@ script_past bytes scripts picks m h p =
 pub no_script : (bytes : List ℕ) (line : ℕ) (why : Why) (scripts : List (List Stmt)) (picks : List Pick) → IsScript bytes scripts picks → IsFirstOf InFront 0 1 (lines_of bytes) line why → ⊥
 no_script bytes line why scripts picks h (by_form l w form least) = let none : Some (fault l w) ≡ None = sym form ∙ script_form bytes scripts picks h in cc
 no_script bytes line why scripts picks h (by_count l past least form) = script_past bytes scripts picks l h past
+
+skips_form : (number next : ℕ) (lines new : List (List ℕ)) (h : SkipsFront number lines next new) → first_fault InFront number lines ≡ first_fault InFront next new
+skips_form number next lines new h = ap (first_fault InFront number) h.split ∙ front_form number h.front new h.skipped ∙ ap (λ k. first_fault InFront k new) (sym h.next_is)
+
+skips_later : (number next : ℕ) (lines new : List (List ℕ)) (h : SkipsFront number lines next new) → batches InFront number lines ≡ later InFront next new
+skips_later number next lines new h =
+    ap (batches InFront number) h.split ∙ front_batches number h.front new h.skipped ∙ ap (λ k. batches InFront k new) (sym h.next_is) ∙ front_later next new
+
+first_of : (bytes : List ℕ) (number next at : ℕ) (lines new : List (List ℕ)) (why : Why) → lines ≡ lines_of bytes → number ≡ 1 → SkipsFront number lines next new
+    → IsFirst (first_fault InFront next new) (IsPast 0 (later InFront next new)) at why → IsFirstOf InFront 0 1 (lines_of bytes) at why
+first_of bytes number next at lines new why e f h r =
+    let there : IsFirstOf InFront 0 number lines at why
+    = first_on (first_fault InFront number lines) (first_fault InFront next new) _ _ at why (skips_form number next lines new h)
+        (λ m p. subst (λ (bs : List Batch). IsPast 0 bs m) (skips_later number next lines new h) p)
+        (λ m p. subst (λ (bs : List Batch). IsPast 0 bs m) (sym (skips_later number next lines new h)) p) r in
+    subst (λ (ls : List (List ℕ)). IsFirstOf InFront 0 1 ls at why) e (subst (λ k. IsFirstOf InFront 0 k lines at why) f there)
+
+-- what is refused behind the lines in front is refused of the bytes
+pub script_refused : (bytes : List ℕ) (number next : ℕ) (lines new : List (List ℕ)) (e : ScriptRefusal) → lines ≡ lines_of bytes → number ≡ 1 → SkipsFront number lines next new → RefusesLater InFront 0 next new e → IsRefusal bytes e
+script_refused bytes number next lines new Memory same one h r = tt
+script_refused bytes number next lines new (Refused at why) same one h r =
+    let first : IsFirstOf InFront 0 1 (lines_of bytes) at why = first_of bytes number next at lines new why same one h r in
+    record { first = first; none = λ scripts picks is. no_script bytes at why scripts picks is first }
+
+pub last_refuses : (bytes : List ℕ) (number next mid count : ℕ) (lines new here : List (List ℕ)) (scripts : List (List Stmt)) (e : ScriptRefusal) → lines ≡ lines_of bytes → number ≡ 1 → SkipsFront number lines next new
+    → ReadsSessions scripts next new mid here → count ≡ length scripts → ((said : ℕ) → RefusesLater (place_at count) said mid here e) → IsRefusal bytes e
+last_refuses bytes number next mid count lines new here scripts e same one h i long r =
+    script_refused bytes number next lines new e same one h (sessions_refused scripts next mid new here e i (rw long at (r (sum_by length scripts))))
+
+or_none : (number : ℕ) (o : Option Why) (rest : Option Fault) → or_later number o rest ≡ None → (o ≡ None) × (rest ≡ None)
+or_none number None rest h = (refl, h)
+or_none number (Some w) rest h = cc
+
+-- where no line has a fault all are text
+form_text : (place : Place) (number : ℕ) (lines : List (List ℕ)) → first_fault place number lines ≡ None → list_all is_text lines ≡ true
+form_text place number [] h = refl
+form_text place number (line ∷ lines) h =
+    let parts = or_none number (fault_of place line) (first_fault (place_behind place line) (number + 1) lines) h in
+    both (is_text line) (list_all is_text lines) (text_of place line parts.0).0 (form_text (place_behind place line) (number + 1) lines parts.1)
+
+front_skipped : (lines : List (List ℕ)) → list_all is_front lines ≡ true → list_all is_skipped lines ≡ true
+front_skipped [] h = refl
+front_skipped (line ∷ lines) h =
+    let parts = both_hold (is_front line) (list_all is_front lines) h in
+    both (is_skipped line) (list_all is_skipped lines) (both_hold (is_text line) (is_skipped line) parts.0).1 (front_skipped lines parts.1)
+
+-- what was read is a script
+pub script_read : (bytes : List ℕ) (number next mid count : ℕ) (lines new here : List (List ℕ)) (scripts : List (List Stmt)) (picks : List Pick) → lines ≡ lines_of bytes → number ≡ 1 → SkipsFront number lines next new
+    → ReadsSessions scripts next new mid here → count ≡ length scripts → ReadsLast count mid here picks → IsScript bytes scripts picks
+script_read bytes number next mid count lines new here scripts picks same one h i long last =
+    let last_is : ReadsLast (length scripts) mid here picks = rw long at last in
+    let form : first_fault InFront number lines ≡ None = skips_form number next lines new h ∙ i.form ∙ last_is.form in
+    record {
+      front = h.front; rest = new; split = sym same ∙ h.split; text = ap (list_all is_text) (sym same) ∙ form_text InFront number lines form; skipped = front_skipped h.front h.skipped;
+      sessions = subst (λ (ss : List (List Stmt)). AreSessions 0 new ss picks) (append-nil scripts) (i.spelled [] picks last_is.is);
+      few = i.few; short = i.short; played = last_is.few;
+    }

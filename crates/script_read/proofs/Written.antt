@@ -5,7 +5,7 @@ use Rattle.std.specs.Option.{option_map}
 use Rattle.std.specs.List.{list_all, prefix_len, slice_split, onto_first, starts_with}
 use Rattle.std.specs.Char.{is_ascii_digit}
 use Rattle.std.specs.Str.{bytes_eq}
-use Rattle.std.proofs.lemmas.Bool.{le-leb, lt-ltb, eqb-refl, eqb-true}
+use Rattle.std.proofs.lemmas.Bool.{le-leb, eqb-true}
 use Rattle.std.proofs.lemmas.List.Folds.{list_all-append}
 use Rattle.std.proofs.lemmas.List.Sums.{sum_by-cons}
 use Rattle.std.proofs.Math.Seq.{take-append_seam, drop-append_seam}
@@ -65,7 +65,7 @@ by_found : (v : Bool) (pick : Pick) → (pick.who == 0) ≡ v → (pick.who ≡ 
 by_found true pick e h =
     let zero : pick.who ≡ 0 = eqb-true pick.who 0 e in
     let one : pick.until ≡ One = h zero in
-    rw (e, one) (ap Some (ap (λ k. picked k One) (sym zero) ∙ ap (picked pick.who) (sym one)))
+    rw (e, one) (ap (λ k. Some (picked k One)) (sym zero))
 by_found false pick e h = rw e refl
 
 -- a pick that is written so is read
