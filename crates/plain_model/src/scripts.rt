@@ -74,6 +74,18 @@ impl StmtList {
     }
 }
 
+impl StmtList {
+    /// Adds the statements of another list at the end. After want of memory the list is as before.
+    pub fn append(&mut self, other: StmtList) -> Result<(), NoMemory>
+        ensures ok { OnOk result (self.new ≡ self.old ++ other) }
+        ensures err { OnErr result (self.new ≡ self.old) }
+    {
+        let mut more = other.stmts;
+        self.stmts.append(&mut more)?;
+        Ok(())
+    }
+}
+
 /// The statements of each session, those of session 1 first: at most 64 sessions, and 20,000 statements in all.
 #[derive(Debug, Drop)]
 pub struct Scripts {

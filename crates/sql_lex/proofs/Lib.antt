@@ -11,3 +11,4 @@ pub mod Cutting
 pub mod Writing
 pub mod Ending
 pub mod FileLemmas
+pub mod Counting

@@ -7,11 +7,12 @@ ghost use Rattle.sql_lex.specs.Ahead.{first_of, behind_first, is_over};
 ghost use Rattle.sql_lex.specs.declared.token.Token.{Token};
 
 use crate::piece::piece;
+use crate::place::token_count;
 use crate::{Token, TokenKind};
 use std::marker::Model;
 
 // The next token from a place on, and the place behind it.
-fn token_from(batch: &[u8], from: usize) -> (Token<'_>, usize)
+pub(crate) fn token_from(batch: &[u8], from: usize) -> (Token<'_>, usize)
     requires within { from ≤ length batch.now }
     requires short { length batch.now < 4294967295 }
     ensures tokens { result.0 ∷ behind result.0.kind (tokens_from batch.now result.1) ≡ tokens_from batch.now from }
@@ -99,5 +100,16 @@ impl<'t> Tokens<'t> {
         let (first, at) = token_from(self.batch, self.at);
         self.first = first;
         self.at = at;
+    }
+
+    /// How many tokens are left, the end among them.
+    pub fn count(&self) -> usize
+        ensures count { result ≡ length self.now }
+        ensures some { 1 ≤ result }
+    {
+        match &self.first.kind {
+            TokenKind::End => 1,
+            _ => token_count(self.batch, self.at) + 1,
+        }
     }
 }

@@ -53,7 +53,7 @@ abbrev pub SameStmt : Stmt → Stmt → List TokenKind → List TokenKind → Ty
 SameStmt s u rest more = (s ≡ u) × (rest ≡ more)
 
 -- the first statement of some tokens is one
-stmt_one : (limited : Bool) (front after rest more : List TokenKind) (s u : Stmt) → IsStmt limited front s → IsStmt limited after u → front ++ rest ≡ after ++ more → SameStmt s u rest more
+pub stmt_one : (limited : Bool) (front after rest more : List TokenKind) (s u : Stmt) → IsStmt limited front s → IsStmt limited after u → front ++ rest ≡ after ++ more → SameStmt s u rest more
 stmt_one limited front after rest more s u (use_database n) (use_database m) e = let same : n ≡ m = cc in (rw same refl, cc)
 stmt_one limited front after rest more s u (select_all n) (select_all m) e = let same : n ≡ m = cc in (rw same refl, cc)
 stmt_one limited front after rest more s u (create_table n first others few) (create_table m head names some) e =

@@ -6,3 +6,4 @@ pub mod Meaning
 pub mod Refusing
 pub mod LawLemmas
 pub mod Writing
+pub mod StmtPlaces

@@ -3,3 +3,4 @@ pub mod Table
 pub mod Place
 pub mod Steps
 pub mod Laws
+pub mod StmtPlace

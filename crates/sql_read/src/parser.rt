@@ -1,6 +1,6 @@
 //! Taking the next token of a batch where it is one that may stand there.
 
-ghost use Rattle.std.specs.Prelude.{◌≡◌, ◌<◌, ◌∷◌, [], length, true, List, IfOk, IsTrue};
+ghost use Rattle.std.specs.Prelude.{◌≡◌, ◌≤◌, ◌<◌, ◌∷◌, [], length, true, List, IfOk, IsTrue};
 ghost use Rattle.sql_lex.specs.declared.refusal.ParseRefusal.TheVariants.{Syntax};
 ghost use Rattle.sql_lex.specs.declared.token.TokenKind.TheVariants as kind;
 ghost use Rattle.sql_lex.specs.declared.token.Mark.TheVariants.{Comma};
@@ -44,7 +44,7 @@ impl<'t> Parser<'t> {
     }
 
     // The refusal at the next token.
-    fn refused(&self) -> ParseRefusal
+    pub(crate) fn refused(&self) -> ParseRefusal
         ensures at { result ≡ Syntax (first_of self.now).at }
         ensures there { self.now ≡ first_of self.now ∷ behind_first self.now }
     {
@@ -59,6 +59,14 @@ impl<'t> Parser<'t> {
         ensures last { IsTrue result → self.now ≡ first_of self.now ∷ [] }
     {
         self.tokens.is_at_end()
+    }
+
+    // How many tokens are left, with the end.
+    pub(crate) fn tokens_left(&self) -> usize
+        ensures value { result ≡ length self.now }
+        ensures some { 1 ≤ result }
+    {
+        self.tokens.count()
     }
 
     // Takes the reserved word.

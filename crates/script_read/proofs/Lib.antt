@@ -1,0 +1,12 @@
+pub mod Tests
+pub mod Numbers
+pub mod LineLemmas
+pub mod Takings
+pub mod WordLemmas
+pub mod Batches
+pub mod Sessions
+pub mod Picking
+pub mod Schedules
+pub mod Whole
+pub mod Written
+pub mod Exclusive

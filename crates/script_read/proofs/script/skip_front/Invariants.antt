@@ -1,0 +1,10 @@
+use Rattle.std.proofs.Common.{length}
+use Rattle.script_read.specs.Left.{left}
+use Rattle.script_read.proofs.Whole.{Skipping}
+use Rattle.script_read.proofs.script.skip_front.Given as goal
+
+abbrev pub invariant-loop-line : goal.invariant-loop-line
+invariant-loop-line l = Skipping l.fn.reader.line (left l.fn.reader) l.reader.line (left l.reader)
+
+abbrev pub decreases-loop-line : goal.decreases-loop-line
+decreases-loop-line l = length (left l.reader)

@@ -1,0 +1,12 @@
+pub mod Words
+pub mod Lines
+pub mod Left
+pub mod Decimal
+pub mod Classes
+pub mod Taking
+pub mod Picks
+pub mod Faults
+pub mod Limit
+pub mod Script
+pub mod Refusal
+pub mod Steps
