@@ -38,7 +38,7 @@ pick_lines_form n before number (line ∷ lines) picks (first, rest, split, has,
     rw (parts.0, on, fits) (pick_lines_form n (before + length first) (number + 1) lines rest others parts.1 (omega (arith, few, long)))
 
 -- a session's line has its form, and can stand
-heading_found : (n : ℕ) (line : List ℕ) → IsSession n line → (is_session line ≡ true) × (number_of (number_part line) ≡ n)
+pub heading_found : (n : ℕ) (line : List ℕ) → IsSession n line → (is_session line ≡ true) × (number_of (number_part line) ≡ n)
 heading_found n line h = rw h.line_is (h.number.form, h.number.value)
 
 session_ok : (n : ℕ) (line : List ℕ) → number_of (number_part line) ≡ n + 1 → n + 1 ≤ 64 → session_fault n line ≡ None
@@ -136,7 +136,7 @@ past_over said m (part ∷ parts) more stmts (first, rest, split, says, others) 
     let on : IsPast (said + length first) (parts ++ more) m = past_by said m part (parts ++ more) us first same (omega (arith, few, long)) p in
     subst (λ k. IsPast k more m) sum (past_over (said + length first) m parts more rest others (omega (arith, few, long)) on)
 
-sessions_over : (n : ℕ) (lines : List (List ℕ)) (scripts : List (List Stmt)) (picks : List Pick) → AreSessions n lines scripts picks → is_over lines ≡ true
+pub sessions_over : (n : ℕ) (lines : List (List ℕ)) (scripts : List (List Stmt)) (picks : List Pick) → AreSessions n lines scripts picks → is_over lines ≡ true
 sessions_over n lines [] picks none = refl
 sessions_over n lines [] picks (schedule ls ps some are) = refl
 sessions_over n lines (stmts ∷ scripts) picks (heading, body, rest, split, session, is, others) = rw split (session_colon heading (heading_found (n + 1) heading session).0)

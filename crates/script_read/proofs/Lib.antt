@@ -10,3 +10,4 @@ pub mod Schedules
 pub mod Whole
 pub mod Written
 pub mod Exclusive
+pub mod LawLemmas
