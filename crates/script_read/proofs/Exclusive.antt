@@ -157,7 +157,7 @@ sessions_past n said number m lines (stmts ∷ scripts) picks (heading, body, re
     let h : Parted (n + 1) (number + 1) body rest = parted (n + 1) (number + 1) body rest is.plain (sessions_over (n + 1) rest scripts picks others) in
     let three : IsPast (said + length stmts) (later (Within (n + 1)) (number + 1 + length body) rest) m
     = past_over said m h.parts (later (Within (n + 1)) (number + 1 + length body) rest) stmts (subst (λ (ps : List (List (List ℕ))). SayAll ps stmts) (sym h.lines) is.says) (omega (arith, few, sum))
-        (subst (λ (bs : List Batch). IsPast said bs m) h.is two) in
+    (subst (λ (bs : List Batch). IsPast said bs m) h.is two) in
     sessions_past (n + 1) (said + length stmts) (number + 1 + length body) m rest scripts picks others (omega (arith, few, sum)) (subst (λ (q : Place). IsPast (said + length stmts) (later q (number + 1 + length body) rest) m) (sym (place_more n)) three)
 
 fronts : (lines : List (List ℕ)) → list_all is_text lines ≡ true → list_all is_skipped lines ≡ true → list_all is_front lines ≡ true
@@ -198,8 +198,8 @@ first_of : (bytes : List ℕ) (number next at : ℕ) (lines new : List (List ℕ
 first_of bytes number next at lines new why e f h r =
     let there : IsFirstOf InFront 0 number lines at why
     = first_on (first_fault InFront number lines) (first_fault InFront next new) _ _ at why (skips_form number next lines new h)
-        (λ m p. subst (λ (bs : List Batch). IsPast 0 bs m) (skips_later number next lines new h) p)
-        (λ m p. subst (λ (bs : List Batch). IsPast 0 bs m) (sym (skips_later number next lines new h)) p) r in
+    (λ m p. subst (λ (bs : List Batch). IsPast 0 bs m) (skips_later number next lines new h) p)
+    (λ m p. subst (λ (bs : List Batch). IsPast 0 bs m) (sym (skips_later number next lines new h)) p) r in
     subst (λ (ls : List (List ℕ)). IsFirstOf InFront 0 1 ls at why) e (subst (λ k. IsFirstOf InFront 0 k lines at why) f there)
 
 -- what is refused behind the lines in front is refused of the bytes
@@ -238,7 +238,13 @@ script_read bytes number next mid count lines new here scripts picks same one h 
     let last_is : ReadsLast (length scripts) mid here picks = rw long at last in
     let form : first_fault InFront number lines ≡ None = skips_form number next lines new h ∙ i.form ∙ last_is.form in
     record {
-      front = h.front; rest = new; split = sym same ∙ h.split; text = ap (list_all is_text) (sym same) ∙ form_text InFront number lines form; skipped = front_skipped h.front h.skipped;
+      front = h.front;
+      rest = new;
+      split = sym same ∙ h.split;
+      text = ap (list_all is_text) (sym same) ∙ form_text InFront number lines form;
+      skipped = front_skipped h.front h.skipped;
       sessions = subst (λ (ss : List (List Stmt)). AreSessions 0 new ss picks) (append-nil scripts) (i.spelled [] picks last_is.is);
-      few = i.few; short = i.short; played = last_is.few;
+      few = i.few;
+      short = i.short;
+      played = last_is.few;
     }

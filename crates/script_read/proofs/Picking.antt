@@ -111,9 +111,13 @@ pick_found sessions word pick (Some until) e form there h =
     let digits : List ℕ = take (digits_len word) word in
     let by : ByNumber (number_of digits) until pick = by_number (number_of digits == 0) (number_of digits) until pick refl h in
     record {
-      digits = digits; rest = drop (digits_len word) word; word_is = sym (take-append-drop (digits_len word) word);
-      number = record { form = form; value = sym by.who_is }; there = omega (arith, by.who_is, leb-true _ _ there);
-      far = subst (λ (u : Until). IsUntil u (drop (digits_len word) word)) (sym by.until_is) (until_is (drop (digits_len word) word) until e); flusher = by.flusher;
+      digits = digits;
+      rest = drop (digits_len word) word;
+      word_is = sym (take-append-drop (digits_len word) word);
+      number = record { form = form; value = sym by.who_is };
+      there = omega (arith, by.who_is, leb-true _ _ there);
+      far = subst (λ (u : Until). IsUntil u (drop (digits_len word) word)) (sym by.until_is) (until_is (drop (digits_len word) word) until e);
+      flusher = by.flusher;
     }
 
 pick_tested : (v w : Bool) (sessions : ℕ) (word : List ℕ) (pick : Pick) → is_decimal (take (digits_len word) word) ≡ v → nat_le (number_of (take (digits_len word) word)) sessions ≡ w

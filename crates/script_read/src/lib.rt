@@ -12,6 +12,8 @@ mod refusal;
 mod schedule;
 mod script;
 mod session;
+#[cfg(test)]
+mod tests;
 
 pub use law::{picks_are_read_as_written, scripts_have_one_reading, scripts_have_one_refusal};
 pub use refusal::{ScriptRefusal, Why};
