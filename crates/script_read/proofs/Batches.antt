@@ -23,7 +23,7 @@ use Rattle.script_read.specs.Faults.{Place, InFront, Within, Scheduled, place_be
 use Rattle.script_read.specs.Limit.{Batch, batch_at, grown, batches, SaysText, Says, Begins, IsPast, ends_before}
 use Rattle.script_read.specs.Refusal.{IsFirst, by_form, by_count, Refuses}
 use Rattle.script_read.specs.Steps.{PastIn, refusal_by, ReadsBatch, later}
-use Rattle.script_read.proofs.Tests.{both_hold, neither, not_false}
+use Rattle.script_read.proofs.BoolLemmas.{both_hold, neither, not_false}
 use Rattle.script_read.proofs.LineLemmas.{ends_few}
 
 -- a bad line among others, or what comes later

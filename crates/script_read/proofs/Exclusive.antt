@@ -20,7 +20,7 @@ use Rattle.script_read.specs.Limit.{Batch, batch_at, grown, batches, Says, Begin
 use Rattle.script_read.specs.Refusal.{IsFirst, by_form, by_count, IsFirstOf, IsRefusal}
 use Rattle.script_read.specs.Script.{SayAll, IsBody, ArePickLines, IsSchedule, none, schedule, AreSessions, IsScript}
 use Rattle.script_read.specs.Steps.{later, is_over, place_at, is_front, SkipsFront, RefusesLater, ReadsSessions, ReadsLast}
-use Rattle.script_read.proofs.Tests.{clash, both_hold, both, is_false, not_true}
+use Rattle.script_read.proofs.BoolLemmas.{clash, both_hold, both, is_false, not_true}
 use Rattle.script_read.proofs.Batches.{batches_split, says_one}
 use Rattle.script_read.proofs.Sessions.{is_plain, HasFirst, has_first, first_on}
 use Rattle.script_read.proofs.Written.{on_found}

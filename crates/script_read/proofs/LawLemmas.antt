@@ -14,7 +14,7 @@ use Rattle.script_read.specs.Refusal.{IsFirst, by_form, by_count, IsRefusedAt}
 use Rattle.script_read.specs.Script.{SayAll, IsBody, ArePickLines, IsSchedule, none, schedule, AreSessions, IsScript}
 use Rattle.script_read.specs.Steps.{is_over}
 use Rattle.script_read.specs.Laws.{HasOneReading, HasOneRefusal, ReadsAsWritten}
-use Rattle.script_read.proofs.Tests.{clash, both_hold}
+use Rattle.script_read.proofs.BoolLemmas.{clash, both_hold}
 use Rattle.script_read.proofs.Batches.{says_one}
 use Rattle.script_read.proofs.Sessions.{is_plain}
 use Rattle.script_read.proofs.Picking.{pick_is}

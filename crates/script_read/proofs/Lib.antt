@@ -1,4 +1,4 @@
-pub mod Tests
+pub mod BoolLemmas
 pub mod Numbers
 pub mod LineLemmas
 pub mod Takings

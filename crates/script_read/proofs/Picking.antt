@@ -17,7 +17,7 @@ use Rattle.plain_model.specs.declared.pick.Pick.{Pick}
 use Rattle.script_read.specs.Decimal.{is_decimal, number_of, IsDecimal}
 use Rattle.script_read.specs.Classes.{is_blank}
 use Rattle.script_read.specs.Picks.{word_of, kinds, IsUntil, IsPick, words, ArePicks, HasPicks, kind_of, until_of, digits_len, picked, of_flusher, pick_by, pick_of, with_pick, picks_of, picks_on}
-use Rattle.script_read.proofs.Tests.{both_hold, clash}
+use Rattle.script_read.proofs.BoolLemmas.{both_hold, clash}
 
 -- what is found passes the test, and what all pass
 found_by : {X : Type 0} (v : Bool) (test also : X → Bool) (x y : X) (xs : List X) → test x ≡ v → cond v (Some x) (find test xs) ≡ Some y → (also x && list_all also xs) ≡ true

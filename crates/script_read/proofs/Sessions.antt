@@ -16,7 +16,7 @@ use Rattle.script_read.specs.Limit.{Batch, batches, Says, IsPast}
 use Rattle.script_read.specs.Refusal.{IsFirst, by_form, by_count, Refuses}
 use Rattle.script_read.specs.Script.{SayAll, IsBody}
 use Rattle.script_read.specs.Steps.{ReadsBatch, PassesGo, first_goes, later, is_over, ReadsSession}
-use Rattle.script_read.proofs.Tests.{clash, both_hold, both, neither, not_false}
+use Rattle.script_read.proofs.BoolLemmas.{clash, both_hold, both, neither, not_false}
 use Rattle.script_read.proofs.Batches.{or_bad, batch_form, Facts, PastHere, past_split, past_join}
 
 -- what is first refused of some lines is first refused of those before, where these lead to them

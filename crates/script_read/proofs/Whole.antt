@@ -21,7 +21,7 @@ use Rattle.script_read.specs.Limit.{Batch, batches, IsPast}
 use Rattle.script_read.specs.Refusal.{IsFirst, by_form, by_count, IsFirstOf, Refuses}
 use Rattle.script_read.specs.Script.{IsBody, IsSchedule, none, schedule, AreSessions}
 use Rattle.script_read.specs.Steps.{later, is_over, ReadsSession, ReadsPicks, place_at, is_front, is_front_over, SkipsFront, is_behind, IsLast, no_line, schedule_line, BeginsSession, RefusesLater, ReadsSessions, ReadsLast}
-use Rattle.script_read.proofs.Tests.{clash, both_hold, both, is_false}
+use Rattle.script_read.proofs.BoolLemmas.{clash, both_hold, both, is_false}
 use Rattle.script_read.proofs.Batches.{later_from, past_from}
 use Rattle.script_read.proofs.Sessions.{first_on}
 use Rattle.script_read.proofs.Takings.{all_push}
