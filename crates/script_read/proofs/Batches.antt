@@ -23,7 +23,7 @@ use Rattle.script_read.specs.Faults.{Place, InFront, Within, Scheduled, place_be
 use Rattle.script_read.specs.Limit.{Batch, batch_at, grown, batches, SaysText, Says, Begins, IsPast, ends_before}
 use Rattle.script_read.specs.Refusal.{IsFirst, by_form, by_count, Refuses}
 use Rattle.script_read.specs.Steps.{PastIn, refusal_by, ReadsBatch, later}
-use Rattle.script_read.proofs.Tests.{both_hold, neither, not_false}
+use Rattle.script_read.proofs.BoolLemmas.{both_hold, neither, not_false}
 use Rattle.script_read.proofs.LineLemmas.{ends_few}
 
 -- a bad line among others, or what comes later
@@ -210,7 +210,7 @@ both_refused false n said number next bad past lines new stmts refusal h over be
     let same : Refused past why.Many ≡ refusal = cc (rw e at r) in
     subst (λ (x : ScriptRefusal). Refuses (Within n) said number (lines ++ new) x) same
     (by_count past (past_join n said number next past lines new stmts h (inr (over, begins))) (λ m q. let at : past ≡ m = past_at n said number next past m lines new stmts h over begins q in omega (arith, at))
-        (λ f g. let line : bad ≡ f.line = ap (λ (o : Option Fault). line_of o bad) (sym form ∙ g) in omega (arith, line, leb-false bad past e)))
+    (λ f g. let line : bad ≡ f.line = ap (λ (o : Option Fault). line_of o bad) (sym form ∙ g) in omega (arith, line, leb-false bad past e)))
 
 pub batch_refused : (n said number next : ℕ) (lines new : List (List ℕ)) (stmts : List Stmt) (bad past : Option ℕ) (refusal : ScriptRefusal) → Facts said number next lines new stmts
     → list_all is_whole lines ≡ true → said ≤ 20000 → bad ≡ first_bad None number lines → PastIn past (joined lines) number said (length stmts) → refusal_by bad past ≡ Some refusal → RefusesBatch n said number (lines ++ new) refusal
@@ -221,7 +221,7 @@ batch_refused n said number next lines new stmts None (Some past) refusal h whol
     let within : past < number + length lines = past_within said past number lines stmts whole h.says few p.0 p.1 in
     subst (λ (x : ScriptRefusal). Refuses (Within n) said number (lines ++ new) x) same
     (by_count past (past_join n said number next past lines new stmts h (inr p)) (λ m q. let at : past ≡ m = past_at n said number next past m lines new stmts h p.0 p.1 q in omega (arith, at))
-        (λ f g. omega (arith, within, fault_from (Within n) (number + length lines) new f (sym form ∙ g))))
+    (λ f g. omega (arith, within, fault_from (Within n) (number + length lines) new f (sym form ∙ g))))
 batch_refused n said number next lines new stmts (Some bad) None refusal h whole few e p r =
     let same : Refused bad why.Byte ≡ refusal = cc in
     let form : first_fault (Within n) number (lines ++ new) ≡ Some (fault bad why.Byte) = batch_form n number lines new h.inner ∙ ap (λ (o : Option ℕ). or_bad o (first_fault (Within n) (number + length lines) new)) (sym e) in
@@ -270,6 +270,12 @@ taken_read bytes line bad past said number next count old new stmts h says e p r
     let none = no_refusal bad past r in
     let fits : PastIn None bytes line said count = subst (λ (o : Option ℕ). PastIn o bytes line said count) none.1 p in
     record {
-      lines = h.lines; split = h.split; inner = h.inner; stops = h.stops; says = subst (λ (text : List ℕ). SaysText text stmts) h.bytes_are says;
-      text = sym h.bad_is ∙ none.0; few = omega (arith, e, fits); next_is = h.next_is;
+      lines = h.lines;
+      split = h.split;
+      inner = h.inner;
+      stops = h.stops;
+      says = subst (λ (text : List ℕ). SaysText text stmts) h.bytes_are says;
+      text = sym h.bad_is ∙ none.0;
+      few = omega (arith, e, fits);
+      next_is = h.next_is;
     }

@@ -20,7 +20,7 @@ use Rattle.script_read.specs.Limit.{Batch, batch_at, grown, batches, Says, Begin
 use Rattle.script_read.specs.Refusal.{IsFirst, by_form, by_count, IsFirstOf, IsRefusal}
 use Rattle.script_read.specs.Script.{SayAll, IsBody, ArePickLines, IsSchedule, none, schedule, AreSessions, IsScript}
 use Rattle.script_read.specs.Steps.{later, is_over, place_at, is_front, SkipsFront, RefusesLater, ReadsSessions, ReadsLast}
-use Rattle.script_read.proofs.Tests.{clash, both_hold, both, is_false, not_true}
+use Rattle.script_read.proofs.BoolLemmas.{clash, both_hold, both, is_false, not_true}
 use Rattle.script_read.proofs.Batches.{batches_split, says_one}
 use Rattle.script_read.proofs.Sessions.{is_plain, HasFirst, has_first, first_on}
 use Rattle.script_read.proofs.Written.{on_found}
@@ -38,7 +38,7 @@ pick_lines_form n before number (line ∷ lines) picks (first, rest, split, has,
     rw (parts.0, on, fits) (pick_lines_form n (before + length first) (number + 1) lines rest others parts.1 (omega (arith, few, long)))
 
 -- a session's line has its form, and can stand
-heading_found : (n : ℕ) (line : List ℕ) → IsSession n line → (is_session line ≡ true) × (number_of (number_part line) ≡ n)
+pub heading_found : (n : ℕ) (line : List ℕ) → IsSession n line → (is_session line ≡ true) × (number_of (number_part line) ≡ n)
 heading_found n line h = rw h.line_is (h.number.form, h.number.value)
 
 session_ok : (n : ℕ) (line : List ℕ) → number_of (number_part line) ≡ n + 1 → n + 1 ≤ 64 → session_fault n line ≡ None
@@ -136,7 +136,7 @@ past_over said m (part ∷ parts) more stmts (first, rest, split, says, others) 
     let on : IsPast (said + length first) (parts ++ more) m = past_by said m part (parts ++ more) us first same (omega (arith, few, long)) p in
     subst (λ k. IsPast k more m) sum (past_over (said + length first) m parts more rest others (omega (arith, few, long)) on)
 
-sessions_over : (n : ℕ) (lines : List (List ℕ)) (scripts : List (List Stmt)) (picks : List Pick) → AreSessions n lines scripts picks → is_over lines ≡ true
+pub sessions_over : (n : ℕ) (lines : List (List ℕ)) (scripts : List (List Stmt)) (picks : List Pick) → AreSessions n lines scripts picks → is_over lines ≡ true
 sessions_over n lines [] picks none = refl
 sessions_over n lines [] picks (schedule ls ps some are) = refl
 sessions_over n lines (stmts ∷ scripts) picks (heading, body, rest, split, session, is, others) = rw split (session_colon heading (heading_found (n + 1) heading session).0)
@@ -157,7 +157,7 @@ sessions_past n said number m lines (stmts ∷ scripts) picks (heading, body, re
     let h : Parted (n + 1) (number + 1) body rest = parted (n + 1) (number + 1) body rest is.plain (sessions_over (n + 1) rest scripts picks others) in
     let three : IsPast (said + length stmts) (later (Within (n + 1)) (number + 1 + length body) rest) m
     = past_over said m h.parts (later (Within (n + 1)) (number + 1 + length body) rest) stmts (subst (λ (ps : List (List (List ℕ))). SayAll ps stmts) (sym h.lines) is.says) (omega (arith, few, sum))
-        (subst (λ (bs : List Batch). IsPast said bs m) h.is two) in
+    (subst (λ (bs : List Batch). IsPast said bs m) h.is two) in
     sessions_past (n + 1) (said + length stmts) (number + 1 + length body) m rest scripts picks others (omega (arith, few, sum)) (subst (λ (q : Place). IsPast (said + length stmts) (later q (number + 1 + length body) rest) m) (sym (place_more n)) three)
 
 fronts : (lines : List (List ℕ)) → list_all is_text lines ≡ true → list_all is_skipped lines ≡ true → list_all is_front lines ≡ true
@@ -198,8 +198,8 @@ first_of : (bytes : List ℕ) (number next at : ℕ) (lines new : List (List ℕ
 first_of bytes number next at lines new why e f h r =
     let there : IsFirstOf InFront 0 number lines at why
     = first_on (first_fault InFront number lines) (first_fault InFront next new) _ _ at why (skips_form number next lines new h)
-        (λ m p. subst (λ (bs : List Batch). IsPast 0 bs m) (skips_later number next lines new h) p)
-        (λ m p. subst (λ (bs : List Batch). IsPast 0 bs m) (sym (skips_later number next lines new h)) p) r in
+    (λ m p. subst (λ (bs : List Batch). IsPast 0 bs m) (skips_later number next lines new h) p)
+    (λ m p. subst (λ (bs : List Batch). IsPast 0 bs m) (sym (skips_later number next lines new h)) p) r in
     subst (λ (ls : List (List ℕ)). IsFirstOf InFront 0 1 ls at why) e (subst (λ k. IsFirstOf InFront 0 k lines at why) f there)
 
 -- what is refused behind the lines in front is refused of the bytes
@@ -238,7 +238,13 @@ script_read bytes number next mid count lines new here scripts picks same one h 
     let last_is : ReadsLast (length scripts) mid here picks = rw long at last in
     let form : first_fault InFront number lines ≡ None = skips_form number next lines new h ∙ i.form ∙ last_is.form in
     record {
-      front = h.front; rest = new; split = sym same ∙ h.split; text = ap (list_all is_text) (sym same) ∙ form_text InFront number lines form; skipped = front_skipped h.front h.skipped;
+      front = h.front;
+      rest = new;
+      split = sym same ∙ h.split;
+      text = ap (list_all is_text) (sym same) ∙ form_text InFront number lines form;
+      skipped = front_skipped h.front h.skipped;
       sessions = subst (λ (ss : List (List Stmt)). AreSessions 0 new ss picks) (append-nil scripts) (i.spelled [] picks last_is.is);
-      few = i.few; short = i.short; played = last_is.few;
+      few = i.few;
+      short = i.short;
+      played = last_is.few;
     }

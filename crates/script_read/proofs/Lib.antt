@@ -1,4 +1,4 @@
-pub mod Tests
+pub mod BoolLemmas
 pub mod Numbers
 pub mod LineLemmas
 pub mod Takings
@@ -10,3 +10,4 @@ pub mod Schedules
 pub mod Whole
 pub mod Written
 pub mod Exclusive
+pub mod LawLemmas

@@ -7,7 +7,7 @@ use Rattle.std.proofs.Math.Seq.{take-append_seam, drop-append_seam}
 use Rattle.std.specs.Prelude.{◌==◌, ◌&&◌, not, flat_map}
 use Rattle.std.specs.List.{prefix_len, list_all, count_by}
 use Rattle.script_read.specs.Limit.{ends_before}
-use Rattle.script_read.proofs.Tests.{both_hold}
+use Rattle.script_read.proofs.BoolLemmas.{both_hold}
 use Rattle.script_read.specs.Lines.{is_at_end, without_returns, is_inside, is_whole, before_first, lines_in, with_end, ended, behind_end, joined}
 
 -- how many bytes the first line has

@@ -17,7 +17,7 @@ use Rattle.plain_model.specs.declared.pick.Pick.{Pick}
 use Rattle.script_read.specs.Decimal.{is_decimal, number_of, IsDecimal}
 use Rattle.script_read.specs.Classes.{is_blank}
 use Rattle.script_read.specs.Picks.{word_of, kinds, IsUntil, IsPick, words, ArePicks, HasPicks, kind_of, until_of, digits_len, picked, of_flusher, pick_by, pick_of, with_pick, picks_of, picks_on}
-use Rattle.script_read.proofs.Tests.{both_hold, clash}
+use Rattle.script_read.proofs.BoolLemmas.{both_hold, clash}
 
 -- what is found passes the test, and what all pass
 found_by : {X : Type 0} (v : Bool) (test also : X → Bool) (x y : X) (xs : List X) → test x ≡ v → cond v (Some x) (find test xs) ≡ Some y → (also x && list_all also xs) ≡ true
@@ -111,9 +111,13 @@ pick_found sessions word pick (Some until) e form there h =
     let digits : List ℕ = take (digits_len word) word in
     let by : ByNumber (number_of digits) until pick = by_number (number_of digits == 0) (number_of digits) until pick refl h in
     record {
-      digits = digits; rest = drop (digits_len word) word; word_is = sym (take-append-drop (digits_len word) word);
-      number = record { form = form; value = sym by.who_is }; there = omega (arith, by.who_is, leb-true _ _ there);
-      far = subst (λ (u : Until). IsUntil u (drop (digits_len word) word)) (sym by.until_is) (until_is (drop (digits_len word) word) until e); flusher = by.flusher;
+      digits = digits;
+      rest = drop (digits_len word) word;
+      word_is = sym (take-append-drop (digits_len word) word);
+      number = record { form = form; value = sym by.who_is };
+      there = omega (arith, by.who_is, leb-true _ _ there);
+      far = subst (λ (u : Until). IsUntil u (drop (digits_len word) word)) (sym by.until_is) (until_is (drop (digits_len word) word) until e);
+      flusher = by.flusher;
     }
 
 pick_tested : (v w : Bool) (sessions : ℕ) (word : List ℕ) (pick : Pick) → is_decimal (take (digits_len word) word) ≡ v → nat_le (number_of (take (digits_len word) word)) sessions ≡ w

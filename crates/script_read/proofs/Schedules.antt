@@ -55,7 +55,7 @@ pub played_refused : (n number next : ℕ) (old here rest : List (List ℕ)) (li
     → Refuses (Scheduled n 0) 0 number old (Refused next w)
 played_refused n number next old here rest line picks new w h e a =
     by_form next w (h.form ∙ ap (first_fault (Scheduled n (length picks)) next) e
-        ∙ ap (λ (o : Option Why). or_later next o (first_fault (Scheduled n (length picks + pick_count (picks_on n line))) (next + 1) rest)) (sym a.fault_is)) (λ m p. absurd p)
+    ∙ ap (λ (o : Option Why). or_later next o (first_fault (Scheduled n (length picks + pick_count (picks_on n line))) (next + 1) rest)) (sym a.fault_is)) (λ m p. absurd p)
 
 -- at the end all are read
 pub played_all : (n number next : ℕ) (old here : List (List ℕ)) (picks : List Pick) → Played n number old picks next here → here ≡ [] → ReadsPicks n number old picks

@@ -16,7 +16,7 @@ use Rattle.script_read.specs.Limit.{Batch, batches, Says, IsPast}
 use Rattle.script_read.specs.Refusal.{IsFirst, by_form, by_count, Refuses}
 use Rattle.script_read.specs.Script.{SayAll, IsBody}
 use Rattle.script_read.specs.Steps.{ReadsBatch, PassesGo, first_goes, later, is_over, ReadsSession}
-use Rattle.script_read.proofs.Tests.{clash, both_hold, both, neither, not_false}
+use Rattle.script_read.proofs.BoolLemmas.{clash, both_hold, both, neither, not_false}
 use Rattle.script_read.proofs.Batches.{or_bad, batch_form, Facts, PastHere, past_split, past_join}
 
 -- what is first refused of some lines is first refused of those before, where these lead to them
@@ -169,7 +169,11 @@ back_one n m said stmts number old next new h p =
 -- one batch was read
 pub reading_one : (said : ℕ) (stmts : List Stmt) (number : ℕ) (old : List (List ℕ)) (next : ℕ) (new : List (List ℕ)) → ReadsBatch said stmts number old next new → Reading said stmts number old next new
 reading_one said stmts number old next new h = record {
-  body = h.lines; split = h.split; plain = inner_plain h.lines h.inner; stops = h.stops; few = h.few;
+  body = h.lines;
+  split = h.split;
+  plain = inner_plain h.lines h.inner;
+  stops = h.stops;
+  few = h.few;
   says = rw (inner_one h.lines h.inner) (stmts, [], sym (append-nil stmts), h.says, refl);
   form = λ n. ap (first_fault (Within n) number) h.split ∙ batch_form n number h.lines new h.inner ∙ ap (λ (o : Option ℕ). or_bad o (first_fault (Within n) (number + length h.lines) new)) h.text ∙ ap (λ k. first_fault (Within n) k new) (sym h.next_is);
   past = λ n m p. past_one n m said stmts number old next new h p;
@@ -211,7 +215,14 @@ over (line ∷ lines) h i = over_by (begins_with_colon line) line refl h i
 pub session_read : (said : ℕ) (stmts : List Stmt) (number : ℕ) (old : List (List ℕ)) (next : ℕ) (new : List (List ℕ)) → Reading said stmts number old next new → first_goes new ≡ false
     → ReadsSession said stmts number old next new
 session_read said stmts number old next new h e = record {
-  body = h.body; split = h.split; is = record { plain = h.plain; says = h.says }; over = over new h.stops e; few = h.few; form = h.form; past = h.past; back = h.back;
+  body = h.body;
+  split = h.split;
+  is = record { plain = h.plain; says = h.says };
+  over = over new h.stops e;
+  few = h.few;
+  form = h.form;
+  past = h.past;
+  back = h.back;
 }
 
 -- what is refused behind batches of a session is refused of it

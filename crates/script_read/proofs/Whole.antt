@@ -21,7 +21,7 @@ use Rattle.script_read.specs.Limit.{Batch, batches, IsPast}
 use Rattle.script_read.specs.Refusal.{IsFirst, by_form, by_count, IsFirstOf, Refuses}
 use Rattle.script_read.specs.Script.{IsBody, IsSchedule, none, schedule, AreSessions}
 use Rattle.script_read.specs.Steps.{later, is_over, ReadsSession, ReadsPicks, place_at, is_front, is_front_over, SkipsFront, is_behind, IsLast, no_line, schedule_line, BeginsSession, RefusesLater, ReadsSessions, ReadsLast}
-use Rattle.script_read.proofs.Tests.{clash, both_hold, both, is_false}
+use Rattle.script_read.proofs.BoolLemmas.{clash, both_hold, both, is_false}
 use Rattle.script_read.proofs.Batches.{later_from, past_from}
 use Rattle.script_read.proofs.Sessions.{first_on}
 use Rattle.script_read.proofs.Takings.{all_push}
@@ -193,9 +193,9 @@ heading_refused n said number next lines rest Memory b r = tt
 heading_refused n said number next lines rest (Refused line w) (heading, split, is, f, at) r =
     let there : IsFirst (first_fault (place_at n) number (heading ∷ rest)) (IsPast said (later (place_at n) number (heading ∷ rest))) line w
     = first_on (first_fault (place_at n) number (heading ∷ rest)) (first_fault (Within (n + 1)) (number + 1) rest) _ _ line w (place_form n number heading rest is f)
-        (λ m p. subst (λ (bs : List Batch). IsPast said bs m) (place_later n number heading rest is) p)
-        (λ m p. subst (λ (bs : List Batch). IsPast said bs m) (sym (place_later n number heading rest is)) p)
-        (subst (λ k. IsFirstOf (Within (n + 1)) said k rest line w) at r) in
+    (λ m p. subst (λ (bs : List Batch). IsPast said bs m) (place_later n number heading rest is) p)
+    (λ m p. subst (λ (bs : List Batch). IsPast said bs m) (sym (place_later n number heading rest is)) p)
+    (subst (λ k. IsFirstOf (Within (n + 1)) said k rest line w) at r) in
     subst (λ (ls : List (List ℕ)). IsFirst (first_fault (place_at n) number ls) (IsPast said (later (place_at n) number ls)) line w) (sym split) there
 
 -- what is refused behind sessions is refused of the script

@@ -17,7 +17,7 @@ use Rattle.plain_model.specs.declared.pick.Pick.{Pick}
 use Rattle.script_read.specs.Decimal.{is_decimal, number_of, IsDecimal}
 use Rattle.script_read.specs.Picks.{word_of, IsUntil, IsPick, words, ArePicks, HasPicks, kind_of, until_of, digits_len, picked, of_flusher, pick_by, pick_of, with_pick, picks_of, picks_on}
 use Rattle.script_read.specs.Classes.{is_blank}
-use Rattle.script_read.proofs.Tests.{both_hold, both, is_false}
+use Rattle.script_read.proofs.BoolLemmas.{both_hold, both, is_false}
 
 -- the digits of a number are digits
 decimal_digits : (ds : List ℕ) → is_decimal ds ≡ true → list_all is_ascii_digit ds ≡ true

@@ -10,3 +10,4 @@ pub mod Limit
 pub mod Script
 pub mod Refusal
 pub mod Steps
+pub mod Laws

@@ -7,7 +7,9 @@ ghost use Rattle.script_read.specs.Classes.{is_text_byte, is_text, is_blank_byte
 use crate::decimal::is_decimal;
 
 const COMMENT: &[u8] = b"--";
+
 const SESSION: &[u8] = b":session ";
+
 const SCHEDULE: &[u8] = b":schedule";
 
 fn is_text_byte(byte: u8) -> bool
@@ -68,9 +70,7 @@ fn blank_len(line: &[u8]) -> usize
     ensures value { result ≡ prefix_len is_blank_byte line.now }
     ensures within { result ≤ length line.now }
 {
-    line.iter()
-        .take_while(|byte| is_blank_byte(**byte))
-        .count()
+    line.iter().take_while(|byte| is_blank_byte(**byte)).count()
 }
 
 pub(crate) fn is_go(line: &[u8]) -> bool

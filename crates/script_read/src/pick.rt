@@ -88,9 +88,7 @@ fn digits_len(word: &[u8]) -> usize
     ensures value { result ≡ digits_len word.now }
     ensures within { result ≤ length word.now }
 {
-    word.iter()
-        .take_while(|byte| byte.is_ascii_digit())
-        .count()
+    word.iter().take_while(|byte| byte.is_ascii_digit()).count()
 }
 
 // The flusher takes single steps alone.

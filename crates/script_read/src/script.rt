@@ -8,13 +8,12 @@ ghost use Rattle.script_read.specs.Refusal.{IsRefusal};
 ghost use Rattle.script_read.specs.Script.{IsScript};
 ghost use Rattle.script_read.specs.Steps.{is_front, is_front_over, is_behind, place_at, SkipsFront, IsLast, BeginsSession, RefusesLater, ReadsSessions, ReadsLast};
 
-use crate::ScriptRefusal;
-use crate::Why;
 use crate::class::{is_session, is_skipped, is_text};
 use crate::fault::{front_fault, inner_fault};
 use crate::reader::{Reader, text_of};
 use crate::schedule::read_schedule;
 use crate::session::read_session;
+use crate::{ScriptRefusal, Why};
 use plain_model::{PickList, Scripts};
 use std::alloc::Global;
 
@@ -93,11 +92,7 @@ fn read_sessions(alloc: Global, reader: &mut Reader) -> Result<Scripts, ScriptRe
 }
 
 // The picks of the schedule, if it is there.
-fn read_last(
-    alloc: Global,
-    reader: &mut Reader,
-    sessions: usize,
-) -> Result<PickList, ScriptRefusal>
+fn read_last(alloc: Global, reader: &mut Reader, sessions: usize) -> Result<PickList, ScriptRefusal>
     requires few { sessions ≤ 64 }
     requires last { IsLast sessions (left reader.old) }
     ensures ok { IfOk result (ReadsLast sessions reader.old.line (left reader.old)) }

@@ -49,11 +49,7 @@ fn ends_before(at: usize, bytes: &[u8]) -> usize
     ensures value { result ≡ ends_before at bytes.now }
     ensures within { result ≤ length bytes.now }
 {
-    bytes
-        .iter()
-        .take(at)
-        .filter(|byte| **byte == b'\n')
-        .count()
+    bytes.iter().take(at).filter(|byte| **byte == b'\n').count()
 }
 
 // The line on which a statement of a batch begins, by its number from 0. Only memory can lack where the batch has it.

@@ -23,7 +23,7 @@ returns-in_err-picks-clause-err c =
     let p = err_from_is_err_and c.from_residual-in_err-picks.result c.from_residual-in_err-picks.ensures.1 in
     refused_exit (IsRefusal c.args.bytes.now) _ _ _ p.1 p.2
     (last_refuses c.args.bytes.now _ _ _ _ _ _ _ _ _ (c.new-reader.ensures.left ∙ ap lines_in c.as_slice.ensures.value ∙ c.in_ok-text.ensures.lines) c.new-reader.ensures.line c.skip_front.ensures
-        c.in_ok-scripts.ensures.ok c.len.ensures c.in_err-picks.ensures.refused)
+    c.in_ok-scripts.ensures.ok c.len.ensures c.in_err-picks.ensures.refused)
 
 pub returns-clause-ok : goal.returns-clause-ok
 returns-clause-ok c =

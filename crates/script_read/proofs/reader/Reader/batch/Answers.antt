@@ -13,9 +13,14 @@ pub returns-clause-takes : goal.returns-clause-takes
 returns-clause-takes c =
     let h = c.loop-inner.invariant in
     record {
-      lines = h.lines; split = h.split; inner = h.inner; stops = no_value _ _ _ c.inner_line.ensures c.in_default.not-Some;
+      lines = h.lines;
+      split = h.split;
+      inner = h.inner;
+      stops = no_value _ _ _ c.inner_line.ensures c.in_default.not-Some;
       bytes_are = c.front_of.ensures ∙ took_bytes h.lines (left c.loop-inner.self) _ _ (c.rest-start.ensures.whole ∙ ap ended h.split) c.rest.ensures.whole;
-      line_is = refl; bad_is = h.bad_is; next_is = h.next_is;
+      line_is = refl;
+      bad_is = h.bad_is;
+      next_is = h.next_is;
     }
 
 pub returns-clause-counted : goal.returns-clause-counted
