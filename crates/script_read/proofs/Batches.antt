@@ -6,11 +6,12 @@ use Rattle.std.proofs.lemmas.Bool.{leb-true, leb-false}
 use Rattle.std.proofs.lemmas.List.Folds.{list_all-append}
 use Rattle.plain_model.specs.declared.stmt.Stmt.{Stmt}
 use Rattle.plain_model.specs.declared.stmt.Stmt.TheVariants.{Broken}
-use Rattle.sql_read.specs.declared.token.Token.{Token}
-use Rattle.sql_read.specs.declared.token.TokenKind.TheVariants.{End}
-use Rattle.sql_read.specs.Tokens.{token, end}
+use Rattle.sql_lex.specs.declared.token.Token.{Token}
+use Rattle.sql_lex.specs.declared.token.TokenKind.TheVariants.{End}
+use Rattle.sql_lex.specs.Tokens.{token, end}
 use Rattle.sql_read.specs.StmtPlace.{IsStmtPlace}
-use Rattle.sql_read.proofs.LawLemmas.{one_cutting, one_reading, one_place}
+use Rattle.sql_lex.proofs.Cutting.{one_cutting}
+use Rattle.sql_read.proofs.LawLemmas.{one_reading, one_place}
 use Rattle.sql_read.proofs.StmtPlaces.{one_stmt_place}
 use Rattle.script_read.specs.declared.refusal.Why.{Why}
 use Rattle.script_read.specs.declared.refusal.Why.TheVariants as why
