@@ -1,6 +1,6 @@
 -- What a batch among lines says, and what its refusal is.
 use Rattle.std.proofs.Common.{◌≡◌, ℕ, suc, ◌+◌, ◌-◌, ◌<◌, ◌≤◌, Bool, true, false, cond, List, [], ◌∷◌, ◌++◌, length, arith, ap, sym, ◌∙◌, refl, inl, inr, ◌⊎◌, subst, add-zero, Option}
-use Rattle.std.specs.Prelude.{Some, None, not, ◌&&◌, nat_le}
+use Rattle.std.specs.Prelude.{Some, None, ◌&&◌, nat_le}
 use Rattle.std.specs.List.{list_all}
 use Rattle.std.proofs.lemmas.Bool.{leb-true, leb-false}
 use Rattle.std.proofs.lemmas.List.Folds.{list_all-append}
@@ -9,20 +9,19 @@ use Rattle.plain_model.specs.declared.stmt.Stmt.TheVariants.{Broken}
 use Rattle.sql_lex.specs.declared.token.Token.{Token}
 use Rattle.sql_lex.specs.declared.token.TokenKind.TheVariants.{End}
 use Rattle.sql_lex.specs.Tokens.{token, end}
-use Rattle.sql_read.specs.StmtPlace.{IsStmtPlace}
 use Rattle.sql_lex.proofs.Cutting.{one_cutting}
 use Rattle.sql_read.proofs.LawLemmas.{one_reading, one_place}
 use Rattle.sql_read.proofs.StmtPlaces.{one_stmt_place}
 use Rattle.script_read.specs.declared.refusal.Why.{Why}
 use Rattle.script_read.specs.declared.refusal.Why.TheVariants as why
 use Rattle.script_read.specs.declared.refusal.ScriptRefusal.{ScriptRefusal}
-use Rattle.script_read.specs.declared.refusal.ScriptRefusal.TheVariants.{Refused, Memory}
+use Rattle.script_read.specs.declared.refusal.ScriptRefusal.TheVariants.{Refused}
 use Rattle.script_read.specs.Lines.{joined, is_whole}
 use Rattle.script_read.specs.Classes.{is_text, begins_with_colon, is_go, ends_batch}
 use Rattle.script_read.specs.Taking.{is_inner, first_is_inner, noted, first_bad, TakesBatch}
 use Rattle.script_read.specs.Faults.{Place, InFront, Within, Scheduled, place_behind, fault_of, Fault, fault, or_later, first_fault}
 use Rattle.script_read.specs.Limit.{Batch, batch_at, grown, batches, SaysText, Says, Begins, IsPast, ends_before}
-use Rattle.script_read.specs.Refusal.{IsFirst, by_form, by_count, Refuses}
+use Rattle.script_read.specs.Refusal.{by_form, by_count, Refuses}
 use Rattle.script_read.specs.Steps.{PastIn, refusal_by, ReadsBatch, later}
 use Rattle.script_read.proofs.BoolLemmas.{both_hold, neither, not_false}
 use Rattle.script_read.proofs.LineLemmas.{ends_few}

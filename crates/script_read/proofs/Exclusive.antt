@@ -1,7 +1,7 @@
 -- No line of a script is refused.
-use Rattle.std.proofs.Common.{◌≡◌, ℕ, zero, suc, ◌+◌, ◌-◌, ◌<◌, ◌≤◌, Bool, true, false, cond, List, [], ◌∷◌, ◌++◌, length, take, drop, map, arith, ap, sym, ◌∙◌, refl, subst, add-zero, append_assoc, length-append, inl, inr, ◌⊎◌, Option, eq-eqb, append-nil}
-use Rattle.std.specs.Prelude.{Some, None, not, ◌&&◌, ◌==◌, nat_eq, nat_le, nat_lt, sum_by, codes}
-use Rattle.std.specs.List.{list_all, slice_split, onto_first, starts_with}
+use Rattle.std.proofs.Common.{◌≡◌, ℕ, suc, ◌+◌, ◌-◌, ◌<◌, ◌≤◌, Bool, true, false, List, [], ◌∷◌, ◌++◌, length, map, arith, ap, sym, ◌∙◌, refl, subst, add-zero, length-append, inl, inr, ◌⊎◌, Option, eq-eqb, append-nil}
+use Rattle.std.specs.Prelude.{Some, None, ◌==◌, nat_le, nat_lt, sum_by, codes}
+use Rattle.std.specs.List.{list_all, slice_split}
 use Rattle.std.proofs.lemmas.Bool.{le-leb, lt-ltb, eqb-true}
 use Rattle.std.proofs.lemmas.List.Folds.{list_all-append}
 use Rattle.std.proofs.lemmas.List.Sums.{sum_by-cons}
@@ -11,20 +11,20 @@ use Rattle.script_read.specs.declared.refusal.Why.{Why}
 use Rattle.script_read.specs.declared.refusal.ScriptRefusal.{ScriptRefusal}
 use Rattle.script_read.specs.declared.refusal.ScriptRefusal.TheVariants.{Refused, Memory}
 use Rattle.script_read.specs.Lines.{lines_of, joined}
-use Rattle.script_read.specs.Decimal.{is_decimal, number_of, IsDecimal}
-use Rattle.script_read.specs.Classes.{is_text, is_skipped, begins_with_colon, is_go, ends_batch, session_word, number_part, is_session, IsSession, is_schedule}
+use Rattle.script_read.specs.Decimal.{number_of}
+use Rattle.script_read.specs.Classes.{is_text, is_skipped, begins_with_colon, is_go, number_part, is_session, IsSession}
 use Rattle.script_read.specs.Picks.{picks_on}
-use Rattle.script_read.specs.Taking.{is_inner, first_is_inner}
+use Rattle.script_read.specs.Taking.{first_is_inner}
 use Rattle.script_read.specs.Faults.{Place, InFront, Within, Scheduled, place_behind, session_fault, fault_of, Fault, fault, or_later, first_fault}
-use Rattle.script_read.specs.Limit.{Batch, batch_at, grown, batches, Says, Begins, IsPast}
+use Rattle.script_read.specs.Limit.{Batch, batch_at, grown, batches, Begins, IsPast}
 use Rattle.script_read.specs.Refusal.{IsFirst, by_form, by_count, IsFirstOf, IsRefusal}
-use Rattle.script_read.specs.Script.{SayAll, IsBody, ArePickLines, IsSchedule, none, schedule, AreSessions, IsScript}
+use Rattle.script_read.specs.Script.{SayAll, ArePickLines, IsSchedule, none, schedule, AreSessions, IsScript}
 use Rattle.script_read.specs.Steps.{later, is_over, place_at, is_front, SkipsFront, RefusesLater, ReadsSessions, ReadsLast}
-use Rattle.script_read.proofs.BoolLemmas.{clash, both_hold, both, is_false, not_true}
+use Rattle.script_read.proofs.BoolLemmas.{both_hold, both, is_false, not_true}
 use Rattle.script_read.proofs.Batches.{batches_split, says_one}
 use Rattle.script_read.proofs.Sessions.{is_plain, HasFirst, has_first, first_on}
 use Rattle.script_read.proofs.Written.{on_found}
-use Rattle.script_read.proofs.Whole.{place_more, not_zero, place_form, place_later, schedule_form, schedule_place, front_form, front_batches, front_later, session_colon, skipped_no, text_of, sessions_refused}
+use Rattle.script_read.proofs.Whole.{place_more, place_form, place_later, schedule_form, schedule_place, front_form, front_batches, front_later, session_colon, skipped_no, text_of, sessions_refused}
 
 -- lines of picks can stand in the schedule
 pick_lines_form : (n before number : ℕ) (lines : List (List ℕ)) (picks : List Pick) → ArePickLines n lines picks → list_all is_text lines ≡ true → before + length picks ≤ 1000000

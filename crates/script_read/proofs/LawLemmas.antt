@@ -1,17 +1,15 @@
 -- One reading, one refusal.
-use Rattle.std.proofs.Common.{◌≡◌, ℕ, ◌+◌, ◌<◌, ◌≤◌, Bool, true, false, List, [], ◌∷◌, ◌++◌, arith, ap, sym, ◌∙◌, refl, subst, Option}
-use Rattle.std.specs.Prelude.{Some, None, not, ◌&&◌, codes}
+use Rattle.std.proofs.Common.{◌≡◌, ℕ, ◌+◌, Bool, true, List, [], ◌∷◌, ◌++◌, arith, ap, sym, ◌∙◌, refl, subst, Option}
+use Rattle.std.specs.Prelude.{Some, not, codes}
 use Rattle.std.specs.List.{list_all, slice_split}
 use Rattle.plain_model.specs.declared.stmt.Stmt.{Stmt}
 use Rattle.plain_model.specs.declared.pick.Pick.{Pick}
 use Rattle.script_read.specs.declared.refusal.Why.{Why}
-use Rattle.script_read.specs.declared.refusal.Why.TheVariants as why
-use Rattle.script_read.specs.Lines.{lines_of, joined}
-use Rattle.script_read.specs.Classes.{is_skipped, begins_with_colon, is_go, is_session, IsSession}
-use Rattle.script_read.specs.Picks.{HasPicks, picks_on}
+use Rattle.script_read.specs.Lines.{joined}
+use Rattle.script_read.specs.Classes.{is_skipped, is_go, is_session, IsSession}
 use Rattle.script_read.specs.Faults.{Fault, fault}
-use Rattle.script_read.specs.Refusal.{IsFirst, by_form, by_count, IsRefusedAt}
-use Rattle.script_read.specs.Script.{SayAll, IsBody, ArePickLines, IsSchedule, none, schedule, AreSessions, IsScript}
+use Rattle.script_read.specs.Refusal.{IsFirst, by_form, by_count}
+use Rattle.script_read.specs.Script.{SayAll, ArePickLines, IsSchedule, none, schedule, AreSessions}
 use Rattle.script_read.specs.Steps.{is_over}
 use Rattle.script_read.specs.Laws.{HasOneReading, HasOneRefusal, ReadsAsWritten}
 use Rattle.script_read.proofs.BoolLemmas.{clash, both_hold}

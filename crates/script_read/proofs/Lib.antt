@@ -11,3 +11,4 @@ pub mod Whole
 pub mod Written
 pub mod Exclusive
 pub mod LawLemmas
+pub mod Players

@@ -1,17 +1,16 @@
 -- How the lines of a schedule follow one another.
-use Rattle.std.proofs.Common.{◌≡◌, ℕ, ◌+◌, ◌≤◌, Bool, true, false, cond, List, [], ◌∷◌, ◌++◌, length, arith, ap, sym, ◌∙◌, refl, subst, append_assoc, append-nil, length-append, Option}
+use Rattle.std.proofs.Common.{◌≡◌, ℕ, ◌+◌, ◌≤◌, Bool, true, false, List, [], ◌∷◌, ◌++◌, length, arith, ap, sym, ◌∙◌, refl, subst, append_assoc, append-nil, length-append, Option}
 use Rattle.std.specs.Prelude.{Some, None, nat_le}
 use Rattle.std.proofs.lemmas.Bool.{leb-true}
 use Rattle.plain_model.specs.declared.pick.Pick.{Pick}
 use Rattle.script_read.specs.declared.refusal.Why.{Why}
-use Rattle.script_read.specs.declared.refusal.Why.TheVariants as why
 use Rattle.script_read.specs.declared.refusal.ScriptRefusal.TheVariants.{Refused}
-use Rattle.script_read.specs.Classes.{is_text, begins_with_colon}
+use Rattle.script_read.specs.Classes.{is_text}
 use Rattle.script_read.specs.Picks.{picks_on}
-use Rattle.script_read.specs.Faults.{Scheduled, pick_count, picks_fault, count_fault, fault_of, Fault, fault, or_later, first_fault}
+use Rattle.script_read.specs.Faults.{Scheduled, pick_count, count_fault, fault_of, or_later, first_fault}
 use Rattle.script_read.specs.Refusal.{by_form, Refuses}
 use Rattle.script_read.specs.Script.{ArePickLines}
-use Rattle.script_read.specs.Steps.{Adds, AddsLine, ReadsPicks}
+use Rattle.script_read.specs.Steps.{AddsLine, ReadsPicks}
 use Rattle.script_read.proofs.Picking.{has_picks}
 
 -- lines of the schedule were read

@@ -1,23 +1,23 @@
 -- How the batches of a session follow one another.
-use Rattle.std.proofs.Common.{◌≡◌, ℕ, suc, ◌+◌, ◌-◌, ◌<◌, ◌≤◌, Bool, true, false, cond, List, [], ◌∷◌, ◌++◌, length, take, drop, get_or, arith, ap, sym, ◌∙◌, refl, subst, add-zero, append_assoc, append-nil, length-append, Option, inl, inr, ◌⊎◌, Err, Result}
-use Rattle.std.specs.Prelude.{Some, None, IfErr, not, ◌&&◌, ◌||◌, ◌==◌, nat_le, nat_lt}
+use Rattle.std.proofs.Common.{◌≡◌, ℕ, suc, ◌+◌, ◌≤◌, Bool, true, false, cond, List, [], ◌∷◌, ◌++◌, length, take, drop, arith, ap, sym, ◌∙◌, refl, subst, append_assoc, append-nil, length-append, Option, inl, inr, Err, Result}
+use Rattle.std.specs.Prelude.{IfErr, not, ◌&&◌, ◌||◌, ◌==◌, nat_le, nat_lt}
 use Rattle.std.specs.List.{list_all, prefix_len, slice_split, onto_first}
 use Rattle.std.specs.Char.{to_ascii_lowercase}
-use Rattle.std.proofs.lemmas.Bool.{leb-true, le-leb, ltb-true, ltb-false, eqb-true}
+use Rattle.std.proofs.lemmas.Bool.{le-leb, eqb-true}
 use Rattle.std.proofs.lemmas.List.{take-append-drop}
 use Rattle.std.proofs.lemmas.List.Folds.{list_all-append}
 use Rattle.plain_model.specs.declared.stmt.Stmt.{Stmt}
 use Rattle.script_read.specs.declared.refusal.ScriptRefusal.{ScriptRefusal}
 use Rattle.script_read.specs.declared.refusal.ScriptRefusal.TheVariants.{Refused, Memory}
-use Rattle.script_read.specs.Classes.{is_text_byte, is_text, is_blank_byte, is_blank, begins_with_colon, goes, is_go, ends_batch}
-use Rattle.script_read.specs.Taking.{is_inner, first_is_inner, first_bad}
-use Rattle.script_read.specs.Faults.{Place, InFront, Within, Scheduled, place_behind, fault_of, Fault, first_fault}
-use Rattle.script_read.specs.Limit.{Batch, batches, Says, IsPast}
+use Rattle.script_read.specs.Classes.{is_text_byte, is_text, is_blank_byte, is_blank, begins_with_colon, goes, is_go}
+use Rattle.script_read.specs.Taking.{is_inner, first_is_inner}
+use Rattle.script_read.specs.Faults.{Within, Fault, first_fault}
+use Rattle.script_read.specs.Limit.{Batch, batches, IsPast}
 use Rattle.script_read.specs.Refusal.{IsFirst, by_form, by_count, Refuses}
-use Rattle.script_read.specs.Script.{SayAll, IsBody}
+use Rattle.script_read.specs.Script.{SayAll}
 use Rattle.script_read.specs.Steps.{ReadsBatch, PassesGo, first_goes, later, is_over, ReadsSession}
-use Rattle.script_read.proofs.BoolLemmas.{clash, both_hold, both, neither, not_false}
-use Rattle.script_read.proofs.Batches.{or_bad, batch_form, Facts, PastHere, past_split, past_join}
+use Rattle.script_read.proofs.BoolLemmas.{clash, both_hold, both, neither}
+use Rattle.script_read.proofs.Batches.{or_bad, batch_form, Facts, past_split, past_join}
 
 -- what is first refused of some lines is first refused of those before, where these lead to them
 pub first_on : (old new : Option Fault) (before behind : ℕ → Type 0) (line : ℕ) (why : _) → old ≡ new → ((m : ℕ) → before m → behind m) → ((m : ℕ) → behind m → before m)

@@ -1,11 +1,11 @@
 -- How the lines of a batch are taken one by one.
-use Rattle.std.proofs.Common.{◌≡◌, ℕ, suc, ◌+◌, ◌-◌, ◌<◌, ◌≤◌, Bool, true, false, cond, List, [], ◌∷◌, ◌++◌, length, take, drop, arith, ap, sym, ◌∙◌, refl, add-zero, append_assoc, length-append, append-nil, Option}
-use Rattle.std.specs.Prelude.{Some, None, not, ◌&&◌, MatchOption}
+use Rattle.std.proofs.Common.{◌≡◌, ℕ, suc, ◌+◌, ◌-◌, Bool, true, false, List, [], ◌∷◌, ◌++◌, length, take, arith, ap, sym, ◌∙◌, refl, add-zero, append_assoc, length-append, Option}
+use Rattle.std.specs.Prelude.{Some, None, ◌&&◌, MatchOption}
 use Rattle.std.specs.List.{list_all}
 use Rattle.std.proofs.lemmas.List.{take-append-le}
 use Rattle.script_read.specs.Lines.{ended, joined}
-use Rattle.script_read.specs.Classes.{is_text, ends_batch}
-use Rattle.script_read.specs.Taking.{is_inner, first_is_inner, noted, first_bad, TakesBatch}
+use Rattle.script_read.specs.Classes.{ends_batch}
+use Rattle.script_read.specs.Taking.{is_inner, noted, first_bad}
 use Rattle.script_read.proofs.LineLemmas.{ended-append, joined_front}
 
 -- so far these lines were taken

@@ -1,25 +1,22 @@
 -- How a script is made of what stands in front, sessions, and a schedule.
-use Rattle.std.proofs.Common.{◌≡◌, ℕ, zero, suc, ◌+◌, ◌-◌, ◌<◌, ◌≤◌, Bool, true, false, cond, List, [], ◌∷◌, ◌++◌, length, drop, arith, ap, sym, ◌∙◌, refl, subst, add-zero, append_assoc, append-nil, length-append, Option}
-use Rattle.std.specs.Prelude.{Some, None, not, ◌&&◌, ◌||◌, ◌==◌, nat_eq, nat_le, nat_lt, sum_by, codes}
-use Rattle.std.specs.List.{list_all, slice_split, starts_with}
-use Rattle.std.specs.Str.{bytes_eq}
-use Rattle.std.proofs.lemmas.Bool.{leb-true, ltb-true, eqb-true}
+use Rattle.std.proofs.Common.{◌≡◌, ℕ, zero, suc, ◌+◌, ◌<◌, ◌≤◌, Bool, true, false, List, [], ◌∷◌, ◌++◌, length, arith, ap, sym, ◌∙◌, refl, subst, add-zero, append_assoc, length-append, Option}
+use Rattle.std.specs.Prelude.{Some, None, ◌==◌, nat_eq, nat_lt, sum_by, codes}
+use Rattle.std.specs.List.{list_all, starts_with}
+use Rattle.std.proofs.lemmas.Bool.{ltb-true, eqb-true}
 use Rattle.std.proofs.lemmas.Bool.Decides.{Decides-eqb}
-use Rattle.std.proofs.lemmas.List.Folds.{list_all-append}
 use Rattle.std.proofs.lemmas.List.Sums.{sum_by-append, sum_by-cons}
 use Rattle.std.proofs.lemmas.Slice.Eq.{bytes_eq-Decides, starts_is}
 use Rattle.plain_model.specs.declared.stmt.Stmt.{Stmt}
 use Rattle.plain_model.specs.declared.pick.Pick.{Pick}
 use Rattle.script_read.specs.declared.refusal.Why.{Why}
-use Rattle.script_read.specs.declared.refusal.Why.TheVariants as why
 use Rattle.script_read.specs.declared.refusal.ScriptRefusal.{ScriptRefusal}
 use Rattle.script_read.specs.declared.refusal.ScriptRefusal.TheVariants.{Refused, Memory}
 use Rattle.script_read.specs.Decimal.{is_decimal, number_of}
-use Rattle.script_read.specs.Classes.{is_text, is_blank_byte, is_blank, is_comment, is_skipped, begins_with_colon, session_word, number_part, is_session, IsSession, is_schedule}
-use Rattle.script_read.specs.Faults.{Place, InFront, Within, Scheduled, place_behind, session_fault, heading_fault, form_fault, fault_of, Fault, fault, or_later, first_fault}
+use Rattle.script_read.specs.Classes.{is_text, is_skipped, begins_with_colon, session_word, number_part, is_session, IsSession, is_schedule}
+use Rattle.script_read.specs.Faults.{Place, InFront, Within, Scheduled, place_behind, session_fault, form_fault, fault_of, or_later, first_fault}
 use Rattle.script_read.specs.Limit.{Batch, batches, IsPast}
-use Rattle.script_read.specs.Refusal.{IsFirst, by_form, by_count, IsFirstOf, Refuses}
-use Rattle.script_read.specs.Script.{IsBody, IsSchedule, none, schedule, AreSessions}
+use Rattle.script_read.specs.Refusal.{IsFirst, by_form, IsFirstOf, Refuses}
+use Rattle.script_read.specs.Script.{none, schedule, AreSessions}
 use Rattle.script_read.specs.Steps.{later, is_over, ReadsSession, ReadsPicks, place_at, is_front, is_front_over, SkipsFront, is_behind, IsLast, no_line, schedule_line, BeginsSession, RefusesLater, ReadsSessions, ReadsLast}
 use Rattle.script_read.proofs.BoolLemmas.{clash, both_hold, both, is_false}
 use Rattle.script_read.proofs.Batches.{later_from, past_from}

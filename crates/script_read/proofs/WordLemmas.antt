@@ -1,7 +1,7 @@
 -- The words of a line, and the picks that they are.
-use Rattle.std.proofs.Common.{◌≡◌, ℕ, suc, ◌+◌, ◌<◌, ◌≤◌, Bool, true, false, cond, List, [], ◌∷◌, ◌++◌, length, take, drop, arith, ap, sym, ◌∙◌, refl, inl, inr, ◌⊎◌, append_assoc, append-nil, Option}
-use Rattle.std.specs.Prelude.{Some, None, not, ◌==◌, filter}
-use Rattle.std.specs.List.{prefix_len, slice_split, onto_first}
+use Rattle.std.proofs.Common.{◌≡◌, ℕ, suc, ◌+◌, Bool, true, false, cond, List, [], ◌∷◌, ◌++◌, length, take, drop, arith, ap, sym, ◌∙◌, refl, inl, inr, ◌⊎◌, append_assoc, append-nil, Option}
+use Rattle.std.specs.Prelude.{Some, None, ◌==◌, filter}
+use Rattle.std.specs.List.{prefix_len, slice_split}
 use Rattle.plain_model.specs.declared.pick.Pick.{Pick}
 use Rattle.script_read.specs.Picks.{is_space, is_inside_word, is_word, words, pick_of, with_pick, picks_of}
 use Rattle.script_read.specs.Steps.{Adds}

@@ -1,6 +1,7 @@
 //! Reading a script whole.
 
-ghost use Rattle.std.specs.Prelude.{◌≡◌, ◌≤◌, ◌<◌, ◌+◌, ◌∷◌, [], List, ℕ, Bool, true, false, length, sum_by, IfOk, IfErr, Option, MatchOption, IsTrue, ◌↔◌};
+ghost use Rattle.std.specs.Prelude.{All, ◌≡◌, ◌≤◌, ◌<◌, ◌+◌, ◌∷◌, [], List, ℕ, Bool, true, false, length, sum_by, IfOk, IfErr, Option, MatchOption, IsTrue, ◌↔◌};
+ghost use Rattle.plain_model.specs.declared.pick.Pick.{Pick};
 ghost use Rattle.script_read.specs.Classes.{is_schedule};
 ghost use Rattle.script_read.specs.Faults.{Scheduled, InFront, fault_of};
 ghost use Rattle.script_read.specs.Left.{left};
@@ -105,10 +106,12 @@ fn read_last(alloc: Global, reader: &mut Reader, sessions: usize) -> Result<Pick
     read_schedule(alloc, reader, sessions)
 }
 
-/// Reads a script. `Refused` comes exactly where the bytes are no script, with the first line that is refused.
+/// Reads a script. Each pick is of one of its sessions, or the flusher's. `Refused` comes exactly where the bytes are no
+/// script, with the first line that is refused.
 pub fn read_script(alloc: Global, bytes: &[u8]) -> Result<Work2, ScriptRefusal>
     requires { length bytes.now < 4294967295 }
     ensures ok { IfOk result (λ work. IsScript bytes.now work.scripts work.picks) }
+    ensures players { IfOk result (λ work. All (λ (pick : Pick). pick.who ≤ length work.scripts) work.picks) }
     ensures err { IfErr result (IsRefusal bytes.now) }
 {
     let text = text_of(alloc, bytes)?;

@@ -3,7 +3,6 @@ use Rattle.std.proofs.Common.{◌≡◌, ◌⊎◌, inl, inr, ℕ, List, ◌++�
 use Rattle.std.specs.Prelude.{Option}
 use Rattle.std.specs.Io.KnownBytes.{Appends}
 use Rattle.page_dev.specs.Faults.{Rose}
-use Rattle.page_dev.specs.Sink.{AppendsFront}
 use Rattle.plain_model.specs.declared.event.Event.{Event}
 use Rattle.plain_model.specs.Printed.{printed}
 use Rattle.engine_core.specs.declared.closing.CloseEnd.{CloseEnd}

@@ -44,11 +44,7 @@ fn a_whole_script_is_told(rt: HostRuntime) -> Result<(), Fail> {
 #[test]
 fn what_is_no_script_is_refused(rt: HostRuntime) -> Result<(), Fail> {
     let cases = [
-        (
-            b"plya".as_slice(),
-            FIRST,
-            b"refused: usage\n".as_slice(),
-        ),
+        (b"plya".as_slice(), FIRST, b"refused: usage\n".as_slice()),
         (
             b"play",
             b":session 2\n:session 2\n",

@@ -8,8 +8,8 @@ ghost use Rattle.snapdb.specs.Headline.{script_line};
 ghost use Rattle.plain_model.specs.Printed.{printed, event_text, reply_text, row_text, value_text, lock_text, mode_text, carried_text, quoted, next_value_text, values_text};
 
 use page_base::{Mode, Name, Row, SessNo, Value};
-use script_read::Why;
 use plain_model::{Book, Carried, Event, LockName, Reply};
+use script_read::Why;
 use std::alloc::{AllocError, Global};
 
 fn push_number(alloc: Global, text: &mut Vec<u8>, number: u64) -> Result<(), AllocError>

@@ -14,6 +14,7 @@ ghost use Rattle.plain_model.specs.Printed.{printed};
 ghost use Rattle.engine_core.specs.Closing.{IsFault};
 ghost use Rattle.engine_core.specs.Opened.{names_of};
 ghost use Rattle.engine_core.specs.Safe.{is_turn};
+ghost use Rattle.engine_core.specs.Causes.{is_failure};
 ghost use Rattle.snapdb.specs.Closed.{told_text, status_of};
 ghost use Rattle.snapdb.specs.Refusing.{Answers, HasReason, WritesLine};
 ghost use Rattle.script_read.specs.declared.refusal.Why.{Why};
@@ -105,6 +106,7 @@ fn run_scripts<V: Volume>(
     ensures file_later { IfOk result (λ c. V.file_failures volume ≤ V.file_failures c.volume) }
     ensures fault { IfOk result (λ c. IsFault c.end → Rose (V.failures volume) (V.failures c.volume)) }
     ensures blame { IfOk result (λ c. list_any is_turn c.book ≡ true → Rose (V.file_failures volume) (V.file_failures c.volume)) }
+    ensures failed { IfOk result (λ c. list_any is_failure c.book ≡ true → Rose (V.failures volume) (V.failures c.volume)) }
     ensures refused { IfErr result (λ r. r.volume ≡ volume) }
 {
     let Work2 { scripts, picks } = work;
@@ -132,6 +134,7 @@ fn play<V: Volume, S: Source>(
     ensures file_later { IfOk result (λ c. V.file_failures volume ≤ V.file_failures c.volume) }
     ensures fault { IfOk result (λ c. IsFault c.end → Rose (V.failures volume) (V.failures c.volume)) }
     ensures blame { IfOk result (λ c. list_any is_turn c.book ≡ true → Rose (V.file_failures volume) (V.file_failures c.volume)) }
+    ensures failed { IfOk result (λ c. list_any is_failure c.book ≡ true → Rose (V.failures volume) (V.failures c.volume)) }
     ensures kept { IfErr result (λ r. r.volume ≡ volume) }
     ensures why { IfErr result (λ r. HasReason r.why (S.left input.old) (S.left input.new) (S.failures input.old) (S.failures input.new)) }
     ensures later { S.failures input.old ≤ S.failures input.new }
@@ -287,6 +290,9 @@ pub fn still<V: Volume, S: Source, K: Sink>(
 
     // A snapshot turned suspect only where a file of the volume failed.
     ensures suspects { list_any is_turn result.book ≡ true → Rose (V.file_failures volume) (V.file_failures result.volume) }
+
+    // A reply says that the volume failed only where it did.
+    ensures failures { list_any is_failure result.book ≡ true → Rose (V.failures volume) (V.failures result.volume) }
 
     // All files are back, and the volume tells as before.
     ensures out { (n : List ℕ) → finset.contains (V.out result.volume) n ≡ false }

@@ -1,11 +1,11 @@
 use Rattle.std.proofs.Common.{arith, ◌∙◌, ap}
 use Rattle.std.proofs.lemmas.Result.{err_from_is_err_and}
-use Rattle.script_read.specs.Left.{left}
 use Rattle.script_read.specs.Lines.{without_returns, lines_in}
 use Rattle.script_read.specs.Refusal.{IsRefusal}
 use Rattle.script_read.proofs.LineLemmas.{lines_few, length-without_returns}
 use Rattle.script_read.proofs.Sessions.{refused_exit}
 use Rattle.script_read.proofs.Exclusive.{script_refused, last_refuses, script_read}
+use Rattle.script_read.proofs.Players.{players}
 use Rattle.script_read.proofs.script.read_script.Goals as goal
 
 pub new-reader-requires-clause-few : goal.new-reader-requires-clause-few
@@ -29,3 +29,8 @@ pub returns-clause-ok : goal.returns-clause-ok
 returns-clause-ok c =
     script_read c.args.bytes.now _ _ _ _ _ _ _ c.in_ok-scripts.scripts c.in_ok-picks.picks (c.new-reader.ensures.left ∙ ap lines_in c.as_slice.ensures.value ∙ c.in_ok-text.ensures.lines) c.new-reader.ensures.line c.skip_front.ensures
     c.in_ok-scripts.ensures.ok c.len.ensures c.in_ok-picks.ensures.ok
+
+pub returns-clause-players : goal.returns-clause-players
+returns-clause-players c = players c.args.bytes.now c.in_ok-scripts.scripts c.in_ok-picks.picks
+    (script_read c.args.bytes.now _ _ _ _ _ _ _ c.in_ok-scripts.scripts c.in_ok-picks.picks (c.new-reader.ensures.left ∙ ap lines_in c.as_slice.ensures.value ∙ c.in_ok-text.ensures.lines) c.new-reader.ensures.line c.skip_front.ensures
+    c.in_ok-scripts.ensures.ok c.len.ensures c.in_ok-picks.ensures.ok)
