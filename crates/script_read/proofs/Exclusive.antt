@@ -1,7 +1,7 @@
 -- No line of a script is refused.
-use Rattle.std.proofs.Common.{◌≡◌, ℕ, zero, suc, ◌+◌, ◌-◌, ◌<◌, ◌≤◌, Bool, true, false, cond, List, [], ◌∷◌, ◌++◌, length, take, drop, map, arith, ap, sym, ◌∙◌, refl, subst, add-zero, append_assoc, length-append, inl, inr, ◌⊎◌, Option, eq-eqb, append-nil}
-use Rattle.std.specs.Prelude.{Some, None, not, ◌&&◌, ◌==◌, nat_eq, nat_le, nat_lt, sum_by, codes}
-use Rattle.std.specs.List.{list_all, slice_split, onto_first, starts_with}
+use Rattle.std.proofs.Common.{◌≡◌, ℕ, suc, ◌+◌, ◌-◌, ◌<◌, ◌≤◌, Bool, true, false, List, [], ◌∷◌, ◌++◌, length, map, arith, ap, sym, ◌∙◌, refl, subst, add-zero, length-append, inl, inr, ◌⊎◌, Option, eq-eqb, append-nil}
+use Rattle.std.specs.Prelude.{Some, None, ◌==◌, nat_le, nat_lt, sum_by, codes}
+use Rattle.std.specs.List.{list_all, slice_split}
 use Rattle.std.proofs.lemmas.Bool.{le-leb, lt-ltb, eqb-true}
 use Rattle.std.proofs.lemmas.List.Folds.{list_all-append}
 use Rattle.std.proofs.lemmas.List.Sums.{sum_by-cons}
@@ -11,20 +11,20 @@ use Rattle.script_read.specs.declared.refusal.Why.{Why}
 use Rattle.script_read.specs.declared.refusal.ScriptRefusal.{ScriptRefusal}
 use Rattle.script_read.specs.declared.refusal.ScriptRefusal.TheVariants.{Refused, Memory}
 use Rattle.script_read.specs.Lines.{lines_of, joined}
-use Rattle.script_read.specs.Decimal.{is_decimal, number_of, IsDecimal}
-use Rattle.script_read.specs.Classes.{is_text, is_skipped, begins_with_colon, is_go, ends_batch, session_word, number_part, is_session, IsSession, is_schedule}
+use Rattle.script_read.specs.Decimal.{number_of}
+use Rattle.script_read.specs.Classes.{is_text, is_skipped, begins_with_colon, is_go, number_part, is_session, IsSession}
 use Rattle.script_read.specs.Picks.{picks_on}
-use Rattle.script_read.specs.Taking.{is_inner, first_is_inner}
+use Rattle.script_read.specs.Taking.{first_is_inner}
 use Rattle.script_read.specs.Faults.{Place, InFront, Within, Scheduled, place_behind, session_fault, fault_of, Fault, fault, or_later, first_fault}
-use Rattle.script_read.specs.Limit.{Batch, batch_at, grown, batches, Says, Begins, IsPast}
+use Rattle.script_read.specs.Limit.{Batch, batch_at, grown, batches, Begins, IsPast}
 use Rattle.script_read.specs.Refusal.{IsFirst, by_form, by_count, IsFirstOf, IsRefusal}
-use Rattle.script_read.specs.Script.{SayAll, IsBody, ArePickLines, IsSchedule, none, schedule, AreSessions, IsScript}
+use Rattle.script_read.specs.Script.{SayAll, ArePickLines, IsSchedule, none, schedule, AreSessions, IsScript}
 use Rattle.script_read.specs.Steps.{later, is_over, place_at, is_front, SkipsFront, RefusesLater, ReadsSessions, ReadsLast}
-use Rattle.script_read.proofs.BoolLemmas.{clash, both_hold, both, is_false, not_true}
+use Rattle.script_read.proofs.BoolLemmas.{both_hold, both, is_false, not_true}
 use Rattle.script_read.proofs.Batches.{batches_split, says_one}
 use Rattle.script_read.proofs.Sessions.{is_plain, HasFirst, has_first, first_on}
 use Rattle.script_read.proofs.Written.{on_found}
-use Rattle.script_read.proofs.Whole.{place_more, not_zero, place_form, place_later, schedule_form, schedule_place, front_form, front_batches, front_later, session_colon, skipped_no, text_of, sessions_refused}
+use Rattle.script_read.proofs.Whole.{place_more, place_form, place_later, schedule_form, schedule_place, front_form, front_batches, front_later, session_colon, skipped_no, text_of, sessions_refused}
 
 -- lines of picks can stand in the schedule
 pick_lines_form : (n before number : ℕ) (lines : List (List ℕ)) (picks : List Pick) → ArePickLines n lines picks → list_all is_text lines ≡ true → before + length picks ≤ 1000000
@@ -136,6 +136,7 @@ past_over said m (part ∷ parts) more stmts (first, rest, split, says, others) 
     let on : IsPast (said + length first) (parts ++ more) m = past_by said m part (parts ++ more) us first same (omega (arith, few, long)) p in
     subst (λ k. IsPast k more m) sum (past_over (said + length first) m parts more rest others (omega (arith, few, long)) on)
 
+-- sessions and a schedule begin with a colon, or there are none
 pub sessions_over : (n : ℕ) (lines : List (List ℕ)) (scripts : List (List Stmt)) (picks : List Pick) → AreSessions n lines scripts picks → is_over lines ≡ true
 sessions_over n lines [] picks none = refl
 sessions_over n lines [] picks (schedule ls ps some are) = refl
@@ -174,6 +175,7 @@ script_form bytes scripts picks h =
     ap (first_fault InFront 1) h.split ∙ front_form 1 h.front h.rest (fronts h.front texts.0 h.skipped)
     ∙ sessions_form 0 (1 + length h.front) h.rest scripts picks h.sessions texts.1 (omega (arith, h.few)) h.played
 
+-- no statement of a script passes the limit
 pub script_past : (bytes : List ℕ) (scripts : List (List Stmt)) (picks : List Pick) (m : ℕ) → IsScript bytes scripts picks → IsPast 0 (batches InFront 1 (lines_of bytes)) m → ⊥
 script_past bytes scripts picks m h p =
     let texts = text_parts h.front h.rest (ap (list_all is_text) (sym h.split) ∙ h.text) in
@@ -209,6 +211,7 @@ script_refused bytes number next lines new (Refused at why) same one h r =
     let first : IsFirstOf InFront 0 1 (lines_of bytes) at why = first_of bytes number next at lines new why same one h r in
     record { first = first; none = λ scripts picks is. no_script bytes at why scripts picks is first }
 
+-- so it is of what is refused behind sessions
 pub last_refuses : (bytes : List ℕ) (number next mid count : ℕ) (lines new here : List (List ℕ)) (scripts : List (List Stmt)) (e : ScriptRefusal) → lines ≡ lines_of bytes → number ≡ 1 → SkipsFront number lines next new
     → ReadsSessions scripts next new mid here → count ≡ length scripts → ((said : ℕ) → RefusesLater (place_at count) said mid here e) → IsRefusal bytes e
 last_refuses bytes number next mid count lines new here scripts e same one h i long r =

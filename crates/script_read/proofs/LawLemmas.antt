@@ -1,17 +1,15 @@
 -- One reading, one refusal.
-use Rattle.std.proofs.Common.{◌≡◌, ℕ, ◌+◌, ◌<◌, ◌≤◌, Bool, true, false, List, [], ◌∷◌, ◌++◌, arith, ap, sym, ◌∙◌, refl, subst, Option}
-use Rattle.std.specs.Prelude.{Some, None, not, ◌&&◌, codes}
+use Rattle.std.proofs.Common.{◌≡◌, ℕ, ◌+◌, Bool, true, List, [], ◌∷◌, ◌++◌, arith, ap, sym, ◌∙◌, refl, subst, Option}
+use Rattle.std.specs.Prelude.{Some, not, codes}
 use Rattle.std.specs.List.{list_all, slice_split}
 use Rattle.plain_model.specs.declared.stmt.Stmt.{Stmt}
 use Rattle.plain_model.specs.declared.pick.Pick.{Pick}
 use Rattle.script_read.specs.declared.refusal.Why.{Why}
-use Rattle.script_read.specs.declared.refusal.Why.TheVariants as why
-use Rattle.script_read.specs.Lines.{lines_of, joined}
-use Rattle.script_read.specs.Classes.{is_skipped, begins_with_colon, is_go, is_session, IsSession}
-use Rattle.script_read.specs.Picks.{HasPicks, picks_on}
+use Rattle.script_read.specs.Lines.{joined}
+use Rattle.script_read.specs.Classes.{is_skipped, is_go, is_session, IsSession}
 use Rattle.script_read.specs.Faults.{Fault, fault}
-use Rattle.script_read.specs.Refusal.{IsFirst, by_form, by_count, IsRefusedAt}
-use Rattle.script_read.specs.Script.{SayAll, IsBody, ArePickLines, IsSchedule, none, schedule, AreSessions, IsScript}
+use Rattle.script_read.specs.Refusal.{IsFirst, by_form, by_count}
+use Rattle.script_read.specs.Script.{SayAll, ArePickLines, IsSchedule, none, schedule, AreSessions}
 use Rattle.script_read.specs.Steps.{is_over}
 use Rattle.script_read.specs.Laws.{HasOneReading, HasOneRefusal, ReadsAsWritten}
 use Rattle.script_read.proofs.BoolLemmas.{clash, both_hold}
@@ -29,6 +27,7 @@ first_one form past a b v w (by_form l x e least) (by_count m p least2 before) =
 first_one form past a b v w (by_count l p least before) (by_form m y f least2) = absurd (omega (arith, least2 l p, before (fault m y) f))
 first_one form past a b v w (by_count l p least before) (by_count m q least2 before2) = (omega (arith, least m q, least2 l p), refl)
 
+-- bytes have one refusal
 pub one_refusal : (bytes : List ℕ) → HasOneRefusal bytes
 one_refusal bytes = λ a b v w h i. first_one _ _ a b v w h.first i.first
 
@@ -112,11 +111,13 @@ rest_stops : (lines : List (List ℕ)) (scripts : List (List Stmt)) (picks : Lis
 rest_stops lines [] picks h = schedule_stops lines picks h
 rest_stops lines (s ∷ ss) picks (heading, body, rest, split, session, is, others) = rw (split, skipped_no heading (heading_found 1 heading session).0) refl
 
+-- bytes say one thing
 pub one_reading : (bytes : List ℕ) → HasOneReading bytes
 one_reading bytes = λ scripts others picks more h i.
     let parts = seam is_skipped h.front i.front h.rest i.rest h.skipped i.skipped (rest_stops h.rest scripts picks h.sessions) (rest_stops i.rest others more i.sessions) (sym h.split ∙ i.split) in
     let same : SameSessions scripts others picks more = sessions_one 0 h.rest scripts others picks more h.sessions (subst (λ (ls : List (List ℕ)). AreSessions 0 ls others more) (sym parts.1) i.sessions) in
     (same.scripts, same.picks)
 
+-- a pick is read as it is written
 pub as_written : (sessions : ℕ) (word : List ℕ) (pick : Pick) → ReadsAsWritten sessions word pick
 as_written sessions word pick = record { written = pick_is sessions word pick; read = pick_found sessions word pick }

@@ -1,20 +1,18 @@
 -- Picks as they are written, and as they are read.
-use Rattle.std.proofs.Common.{◌≡◌, ◌≢◌, ℕ, suc, ◌+◌, ◌-◌, ◌<◌, ◌≤◌, Bool, true, false, cond, List, [], ◌∷◌, ◌++◌, length, take, drop, arith, ap, sym, ◌∙◌, refl, subst, Option}
-use Rattle.std.specs.Prelude.{Some, None, not, ◌&&◌, ◌==◌, nat_le, find, codes}
+use Rattle.std.proofs.Common.{◌≡◌, ℕ, Bool, true, false, cond, List, [], ◌∷◌, take, drop, arith, ap, sym, ◌∙◌, refl, subst, Option}
+use Rattle.std.specs.Prelude.{Some, None, ◌&&◌, ◌==◌, nat_le, find}
 use Rattle.std.specs.Option.{option_map}
-use Rattle.std.specs.List.{list_all, prefix_len}
+use Rattle.std.specs.List.{list_all}
 use Rattle.std.specs.Str.{bytes_eq}
-use Rattle.std.specs.Char.{is_ascii_digit}
-use Rattle.std.proofs.lemmas.Bool.{leb-true, le-leb, eqb-true}
+use Rattle.std.proofs.lemmas.Bool.{leb-true, eqb-true}
 use Rattle.std.proofs.lemmas.List.{take-append-drop}
 use Rattle.std.proofs.lemmas.Slice.Eq.{bytes_eq-Decides}
-use Rattle.std.proofs.Math.Seq.{take-append_seam, drop-append_seam}
 use Rattle.plain_model.specs.declared.kind.Kind.{Kind}
 use Rattle.plain_model.specs.declared.kind.Kind.TheVariants.{Start, Lock, Latch, Look, Fetch, Seek, Read, Plan, Pass, Copy, Mark, Claim, Change, Back, Heal, Cut, Gather, Swap, Commit, Say, Leave, Flush}
 use Rattle.plain_model.specs.declared.pick.Until.{Until}
 use Rattle.plain_model.specs.declared.pick.Until.TheVariants.{One, Reply, At}
 use Rattle.plain_model.specs.declared.pick.Pick.{Pick}
-use Rattle.script_read.specs.Decimal.{is_decimal, number_of, IsDecimal}
+use Rattle.script_read.specs.Decimal.{is_decimal, number_of}
 use Rattle.script_read.specs.Classes.{is_blank}
 use Rattle.script_read.specs.Picks.{word_of, kinds, IsUntil, IsPick, words, ArePicks, HasPicks, kind_of, until_of, digits_len, picked, of_flusher, pick_by, pick_of, with_pick, picks_of, picks_on}
 use Rattle.script_read.proofs.BoolLemmas.{both_hold, clash}

@@ -1,17 +1,16 @@
 -- How the lines of a schedule follow one another.
-use Rattle.std.proofs.Common.{◌≡◌, ℕ, ◌+◌, ◌≤◌, Bool, true, false, cond, List, [], ◌∷◌, ◌++◌, length, arith, ap, sym, ◌∙◌, refl, subst, append_assoc, append-nil, length-append, Option}
+use Rattle.std.proofs.Common.{◌≡◌, ℕ, ◌+◌, ◌≤◌, Bool, true, false, List, [], ◌∷◌, ◌++◌, length, arith, ap, sym, ◌∙◌, refl, subst, append_assoc, append-nil, length-append, Option}
 use Rattle.std.specs.Prelude.{Some, None, nat_le}
 use Rattle.std.proofs.lemmas.Bool.{leb-true}
 use Rattle.plain_model.specs.declared.pick.Pick.{Pick}
 use Rattle.script_read.specs.declared.refusal.Why.{Why}
-use Rattle.script_read.specs.declared.refusal.Why.TheVariants as why
 use Rattle.script_read.specs.declared.refusal.ScriptRefusal.TheVariants.{Refused}
-use Rattle.script_read.specs.Classes.{is_text, begins_with_colon}
+use Rattle.script_read.specs.Classes.{is_text}
 use Rattle.script_read.specs.Picks.{picks_on}
-use Rattle.script_read.specs.Faults.{Scheduled, pick_count, picks_fault, count_fault, fault_of, Fault, fault, or_later, first_fault}
+use Rattle.script_read.specs.Faults.{Scheduled, pick_count, count_fault, fault_of, or_later, first_fault}
 use Rattle.script_read.specs.Refusal.{by_form, Refuses}
 use Rattle.script_read.specs.Script.{ArePickLines}
-use Rattle.script_read.specs.Steps.{Adds, AddsLine, ReadsPicks}
+use Rattle.script_read.specs.Steps.{AddsLine, ReadsPicks}
 use Rattle.script_read.proofs.Picking.{has_picks}
 
 -- lines of the schedule were read
@@ -19,9 +18,6 @@ pub record Played (n number : ℕ) (old : List (List ℕ)) (picks : List Pick) (
   pub form : first_fault (Scheduled n 0) number old ≡ first_fault (Scheduled n (length picks)) next new
   pub lines : (more : List Pick) → ArePickLines n new more → ArePickLines n old (picks ++ more)
   pub few : length picks ≤ 1000000
-
-pub played_none : (n number : ℕ) (old : List (List ℕ)) → Played n number old [] number old
-played_none n number old = record { form = refl; lines = λ more h. h; few = omega arith }
 
 count_by : (v : Bool) (n : ℕ) → nat_le n 1000000 ≡ v → count_fault n ≡ None → n ≤ 1000000
 count_by true n e h = leb-true n 1000000 e
@@ -65,11 +61,13 @@ played_all n number next old here picks h e = record {
   few = h.few;
 }
 
+-- the same where no fault was answered
 pub played_on : (n number next : ℕ) (old here rest : List (List ℕ)) (line : List ℕ) (picks new : List Pick) (o : Option Why) → ((w : Why) → o ≡ Some w → ⊥) → Played n number old picks next here → here ≡ line ∷ rest
     → AddsLine o n line picks new → Played n number old new (next + 1) rest
 played_on n number next old here rest line picks new None none h e a = played_more n number next old here rest line picks new h e a
 played_on n number next old here rest line picks new (Some w) none h e a = absurd (none w refl)
 
+-- the same where a fault was answered
 pub played_stop : (n number next : ℕ) (old here rest : List (List ℕ)) (line : List ℕ) (picks new : List Pick) (o : Option Why) (w : Why) → o ≡ Some w → Played n number old picks next here → here ≡ line ∷ rest
     → AddsLine o n line picks new → Refuses (Scheduled n 0) 0 number old (Refused next w)
 played_stop n number next old here rest line picks new o w f h e a =

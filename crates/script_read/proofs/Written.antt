@@ -1,23 +1,19 @@
 -- What is written as a script is read as one.
-use Rattle.std.proofs.Common.{◌≡◌, ℕ, zero, suc, ◌+◌, ◌-◌, ◌<◌, ◌≤◌, Bool, true, false, cond, List, [], ◌∷◌, ◌++◌, length, take, drop, map, arith, ap, sym, ◌∙◌, refl, subst, add-zero, append_assoc, length-append, inl, inr, ◌⊎◌, Option}
-use Rattle.std.specs.Prelude.{Some, None, not, ◌&&◌, ◌==◌, nat_eq, nat_le, nat_lt, sum_by, codes}
-use Rattle.std.specs.Option.{option_map}
-use Rattle.std.specs.List.{list_all, prefix_len, slice_split, onto_first, starts_with}
+use Rattle.std.proofs.Common.{◌≡◌, ℕ, Bool, true, false, List, [], ◌∷◌, ◌++◌, length, take, drop, arith, ap, sym, ◌∙◌, refl}
+use Rattle.std.specs.Prelude.{Some, not, ◌==◌, nat_le}
+use Rattle.std.specs.List.{list_all, prefix_len}
 use Rattle.std.specs.Char.{is_ascii_digit}
-use Rattle.std.specs.Str.{bytes_eq}
 use Rattle.std.proofs.lemmas.Bool.{le-leb, eqb-true}
-use Rattle.std.proofs.lemmas.List.Folds.{list_all-append}
-use Rattle.std.proofs.lemmas.List.Sums.{sum_by-cons}
 use Rattle.std.proofs.Math.Seq.{take-append_seam, drop-append_seam}
 use Rattle.plain_model.specs.declared.kind.Kind.{Kind}
 use Rattle.plain_model.specs.declared.kind.Kind.TheVariants.{Start, Lock, Latch, Look, Fetch, Seek, Read, Plan, Pass, Copy, Mark, Claim, Change, Back, Heal, Cut, Gather, Swap, Commit, Say, Leave, Flush}
 use Rattle.plain_model.specs.declared.pick.Until.{Until}
 use Rattle.plain_model.specs.declared.pick.Until.TheVariants.{One, Reply, At}
 use Rattle.plain_model.specs.declared.pick.Pick.{Pick}
-use Rattle.script_read.specs.Decimal.{is_decimal, number_of, IsDecimal}
-use Rattle.script_read.specs.Picks.{word_of, IsUntil, IsPick, words, ArePicks, HasPicks, kind_of, until_of, digits_len, picked, of_flusher, pick_by, pick_of, with_pick, picks_of, picks_on}
+use Rattle.script_read.specs.Decimal.{is_decimal}
+use Rattle.script_read.specs.Picks.{IsUntil, IsPick, words, ArePicks, HasPicks, until_of, digits_len, picked, pick_by, pick_of, picks_of, picks_on}
 use Rattle.script_read.specs.Classes.{is_blank}
-use Rattle.script_read.proofs.BoolLemmas.{both_hold, both, is_false}
+use Rattle.script_read.proofs.BoolLemmas.{both_hold}
 
 -- the digits of a number are digits
 decimal_digits : (ds : List ℕ) → is_decimal ds ≡ true → list_all is_ascii_digit ds ≡ true

@@ -1,9 +1,9 @@
 -- What a line of a script is.
-use Rattle.std.specs.Prelude.{ℕ, ◌≡◌, nat_eq, nat_le, Bool, true, false, ◌==◌, ◌&&◌, ◌||◌, if◌then◌else◌, List, [], ◌∷◌, ◌++◌, drop, codes}
+use Rattle.std.specs.Prelude.{ℕ, ◌≡◌, nat_eq, nat_le, Bool, false, ◌==◌, ◌&&◌, ◌||◌, List, [], ◌∷◌, ◌++◌, drop, codes}
 use Rattle.std.specs.List.{list_all, prefix_len, starts_with}
 use Rattle.std.specs.Str.{bytes_eq}
 use Rattle.std.specs.Char.{to_ascii_lowercase}
-use Rattle.script_read.specs.Decimal.{is_decimal, number_of, IsDecimal}
+use Rattle.script_read.specs.Decimal.{is_decimal, IsDecimal}
 
 -- a tab, or a printable byte
 abbrev pub is_text_byte : ℕ → Bool

@@ -9,10 +9,10 @@ use Rattle.script_read.specs.declared.refusal.ScriptRefusal.{ScriptRefusal}
 use Rattle.script_read.specs.declared.refusal.ScriptRefusal.TheVariants.{Refused, Memory}
 use Rattle.script_read.specs.Classes.{is_text, is_skipped, begins_with_colon, is_go, is_schedule, is_session}
 use Rattle.script_read.specs.Taking.{is_inner, first_is_inner, first_bad}
-use Rattle.script_read.specs.Limit.{Says, Batch, batches, IsPast, SaysText, Begins}
+use Rattle.script_read.specs.Limit.{Says, Batch, batches, IsPast, Begins}
 use Rattle.script_read.specs.Script.{IsBody, ArePickLines, IsSchedule, AreSessions}
 use Rattle.script_read.specs.Refusal.{IsFirst}
-use Rattle.script_read.specs.Picks.{picks_of, picks_on, words}
+use Rattle.script_read.specs.Picks.{picks_on}
 use Rattle.script_read.specs.Faults.{Place, InFront, Within, Scheduled, place_behind, fault_of, first_fault}
 
 -- the picks were added where they are there

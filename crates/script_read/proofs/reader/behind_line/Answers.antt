@@ -1,7 +1,7 @@
-use Rattle.std.proofs.Common.{◌≡◌, ◌∙◌, ◌+◌, ◌-◌, ◌≤◌, List, ℕ, take, drop, length, ap, refl, arith}
+use Rattle.std.proofs.Common.{◌≡◌, ◌∙◌, ◌+◌, ◌-◌, List, ℕ, take, drop, length, ap, refl}
 use Rattle.std.proofs.lemmas.List.{take_rest}
-use Rattle.script_read.specs.Lines.{lines_in, ended}
-use Rattle.script_read.proofs.LineLemmas.{line_len, behind, Behind}
+use Rattle.script_read.specs.Lines.{lines_in}
+use Rattle.script_read.proofs.LineLemmas.{line_len, behind}
 use Rattle.script_read.proofs.reader.behind_line.Goals as goal
 
 pub returns-clause-lines : goal.returns-clause-lines

@@ -1,4 +1,4 @@
-use Rattle.std.proofs.Common.{◌≡◌, ◌++◌, ◌∷◌, [], List, ℕ}
+use Rattle.std.proofs.Common.{◌≡◌, ◌++◌, ◌∷◌, []}
 use Rattle.script_read.proofs.LineLemmas.{closed, closed_lines}
 use Rattle.script_read.proofs.reader.lacks_end.Goals as goal
 

@@ -1,4 +1,4 @@
-use Rattle.script_read.proofs.LineLemmas.{behind, Behind}
+use Rattle.script_read.proofs.LineLemmas.{behind}
 use Rattle.script_read.proofs.reader.second_place.Goals as goal
 
 pub returns-clause-within : goal.returns-clause-within

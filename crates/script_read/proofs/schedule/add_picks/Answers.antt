@@ -1,4 +1,3 @@
-use Rattle.std.proofs.Common.{sym}
 use Rattle.script_read.proofs.WordLemmas.{added_more, added_wrong}
 use Rattle.script_read.proofs.schedule.add_picks.Goals as goal
 

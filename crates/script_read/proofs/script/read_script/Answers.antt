@@ -1,6 +1,5 @@
 use Rattle.std.proofs.Common.{arith, ◌∙◌, ap}
 use Rattle.std.proofs.lemmas.Result.{err_from_is_err_and}
-use Rattle.script_read.specs.Left.{left}
 use Rattle.script_read.specs.Lines.{without_returns, lines_in}
 use Rattle.script_read.specs.Refusal.{IsRefusal}
 use Rattle.script_read.proofs.LineLemmas.{lines_few, length-without_returns}

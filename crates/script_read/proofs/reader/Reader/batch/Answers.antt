@@ -1,7 +1,6 @@
-use Rattle.std.proofs.Common.{◌≡◌, ◌∙◌, ◌++◌, ◌-◌, length, arith, length-take, Bool, List, ℕ, ap, false, refl}
+use Rattle.std.proofs.Common.{◌∙◌, ◌-◌, length, arith, length-take, ap, refl}
 use Rattle.script_read.specs.Left.{left}
 use Rattle.script_read.specs.Lines.{ended}
-use Rattle.script_read.specs.Taking.{first_is_inner}
 use Rattle.script_read.proofs.LineLemmas.{lines_whole}
 use Rattle.script_read.proofs.Takings.{took_more, took_bytes, no_value}
 use Rattle.script_read.proofs.reader.Reader.batch.Goals as goal
