@@ -77,6 +77,7 @@ either_from : (v : Bool) (number : ℕ) (line : List ℕ) (bs cs : List Batch) �
 either_from true number line bs cs h i = (omega arith, from_less number (number + 1) bs (omega arith) h)
 either_from false number line bs cs h i = grown_from number line cs i
 
+-- lines have batches that begin on them
 pub batches_from : (place : Place) (number : ℕ) (lines : List (List ℕ)) → From number (batches place number lines)
 batches_from (Scheduled n picks) number lines = tt
 batches_from InFront number [] = tt
@@ -85,6 +86,7 @@ batches_from (Within n) number [] = (omega arith, tt)
 batches_from (Within n) number (line ∷ lines) =
     either_from (ends_batch line) number line _ _ (batches_from (place_behind (Within n) line) (number + 1) lines) (batches_from (Within n) (number + 1) lines)
 
+-- so have those behind a batch
 pub later_from : (place : Place) (number : ℕ) (lines : List (List ℕ)) → From number (later place number lines)
 later_from place number [] = tt
 later_from place number (line ∷ lines) = from_less number (number + 1) _ (omega arith) (batches_from (place_behind place line) (number + 1) lines)
@@ -168,6 +170,7 @@ past_split n said number next m lines new stmts h p =
     let split : batches (Within n) number (lines ++ new) ≡ batch_at number lines ∷ bs = batches_split n number lines new h.inner h.stops ∙ ap (λ k. batch_at number lines ∷ later (Within n) k new) (sym h.next_is) in
     past_here said number m lines stmts bs h.says (subst (λ (cs : List Batch). IsPast said cs m) split p)
 
+-- and back
 pub past_join : (n said number next m : ℕ) (lines new : List (List ℕ)) (stmts : List Stmt) → Facts said number next lines new stmts → PastHere said number lines stmts (later (Within n) next new) m
     → Pasts said n number (lines ++ new) m
 past_join n said number next m lines new stmts h p =
@@ -212,6 +215,7 @@ both_refused false n said number next bad past lines new stmts refusal h over be
     (by_count past (past_join n said number next past lines new stmts h (inr (over, begins))) (λ m q. let at : past ≡ m = past_at n said number next past m lines new stmts h over begins q in omega (arith, at))
     (λ f g. let line : bad ≡ f.line = ap (λ (o : Option Fault). line_of o bad) (sym form ∙ g) in omega (arith, line, leb-false bad past e)))
 
+-- the refusal of a batch is the first of its lines
 pub batch_refused : (n said number next : ℕ) (lines new : List (List ℕ)) (stmts : List Stmt) (bad past : Option ℕ) (refusal : ScriptRefusal) → Facts said number next lines new stmts
     → list_all is_whole lines ≡ true → said ≤ 20000 → bad ≡ first_bad None number lines → PastIn past (joined lines) number said (length stmts) → refusal_by bad past ≡ Some refusal → RefusesBatch n said number (lines ++ new) refusal
 batch_refused n said number next lines new stmts None None refusal h whole few e p r = cc
@@ -245,6 +249,7 @@ taken_whole lines old new split whole =
 past_of : (bytes text : List ℕ) (line number said count most : ℕ) (past : Option ℕ) → bytes ≡ text → line ≡ number → count ≡ most → PastIn past bytes line said count → PastIn past text number said most
 past_of bytes text line number said count most past e f g h = rw (← e, ← f, ← g) h
 
+-- the refusal of a batch that was taken is the first of the lines
 pub taken_refused : (n : ℕ) (bytes : List ℕ) (line : ℕ) (bad past : Option ℕ) (said number next count : ℕ) (old new : List (List ℕ)) (stmts : List Stmt) (refusal : ScriptRefusal)
     → TakesBatch bytes line bad number old next new → list_all is_whole old ≡ true → said ≤ 20000 → SaysText bytes stmts → count ≡ length stmts → PastIn past bytes line said count
     → refusal_by bad past ≡ Some refusal → Refuses (Within n) said number old refusal
@@ -263,6 +268,7 @@ no_refusal None (Some past) h = cc
 no_refusal (Some bad) None h = cc
 no_refusal (Some bad) (Some past) h = absurd (no_refusal_by (nat_le bad past) _ _ (Refused bad why.Byte) (Refused past why.Many) refl refl h)
 
+-- a batch that was taken and is not refused was read
 pub taken_read : (bytes : List ℕ) (line : ℕ) (bad past : Option ℕ) (said number next count : ℕ) (old new : List (List ℕ)) (stmts : List Stmt)
     → TakesBatch bytes line bad number old next new → SaysText bytes stmts → count ≡ length stmts → PastIn past bytes line said count
     → refusal_by bad past ≡ None → ReadsBatch said stmts number old next new

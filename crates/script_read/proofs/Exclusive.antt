@@ -136,6 +136,7 @@ past_over said m (part ∷ parts) more stmts (first, rest, split, says, others) 
     let on : IsPast (said + length first) (parts ++ more) m = past_by said m part (parts ++ more) us first same (omega (arith, few, long)) p in
     subst (λ k. IsPast k more m) sum (past_over (said + length first) m parts more rest others (omega (arith, few, long)) on)
 
+-- sessions and a schedule begin with a colon, or there are none
 pub sessions_over : (n : ℕ) (lines : List (List ℕ)) (scripts : List (List Stmt)) (picks : List Pick) → AreSessions n lines scripts picks → is_over lines ≡ true
 sessions_over n lines [] picks none = refl
 sessions_over n lines [] picks (schedule ls ps some are) = refl
@@ -174,6 +175,7 @@ script_form bytes scripts picks h =
     ap (first_fault InFront 1) h.split ∙ front_form 1 h.front h.rest (fronts h.front texts.0 h.skipped)
     ∙ sessions_form 0 (1 + length h.front) h.rest scripts picks h.sessions texts.1 (omega (arith, h.few)) h.played
 
+-- no statement of a script passes the limit
 pub script_past : (bytes : List ℕ) (scripts : List (List Stmt)) (picks : List Pick) (m : ℕ) → IsScript bytes scripts picks → IsPast 0 (batches InFront 1 (lines_of bytes)) m → ⊥
 script_past bytes scripts picks m h p =
     let texts = text_parts h.front h.rest (ap (list_all is_text) (sym h.split) ∙ h.text) in
@@ -209,6 +211,7 @@ script_refused bytes number next lines new (Refused at why) same one h r =
     let first : IsFirstOf InFront 0 1 (lines_of bytes) at why = first_of bytes number next at lines new why same one h r in
     record { first = first; none = λ scripts picks is. no_script bytes at why scripts picks is first }
 
+-- so it is of what is refused behind sessions
 pub last_refuses : (bytes : List ℕ) (number next mid count : ℕ) (lines new here : List (List ℕ)) (scripts : List (List Stmt)) (e : ScriptRefusal) → lines ≡ lines_of bytes → number ≡ 1 → SkipsFront number lines next new
     → ReadsSessions scripts next new mid here → count ≡ length scripts → ((said : ℕ) → RefusesLater (place_at count) said mid here e) → IsRefusal bytes e
 last_refuses bytes number next mid count lines new here scripts e same one h i long r =

@@ -27,6 +27,7 @@ first_one form past a b v w (by_form l x e least) (by_count m p least2 before) =
 first_one form past a b v w (by_count l p least before) (by_form m y f least2) = absurd (omega (arith, least2 l p, before (fault m y) f))
 first_one form past a b v w (by_count l p least before) (by_count m q least2 before2) = (omega (arith, least m q, least2 l p), refl)
 
+-- bytes have one refusal
 pub one_refusal : (bytes : List ℕ) → HasOneRefusal bytes
 one_refusal bytes = λ a b v w h i. first_one _ _ a b v w h.first i.first
 
@@ -110,11 +111,13 @@ rest_stops : (lines : List (List ℕ)) (scripts : List (List Stmt)) (picks : Lis
 rest_stops lines [] picks h = schedule_stops lines picks h
 rest_stops lines (s ∷ ss) picks (heading, body, rest, split, session, is, others) = rw (split, skipped_no heading (heading_found 1 heading session).0) refl
 
+-- bytes say one thing
 pub one_reading : (bytes : List ℕ) → HasOneReading bytes
 one_reading bytes = λ scripts others picks more h i.
     let parts = seam is_skipped h.front i.front h.rest i.rest h.skipped i.skipped (rest_stops h.rest scripts picks h.sessions) (rest_stops i.rest others more i.sessions) (sym h.split ∙ i.split) in
     let same : SameSessions scripts others picks more = sessions_one 0 h.rest scripts others picks more h.sessions (subst (λ (ls : List (List ℕ)). AreSessions 0 ls others more) (sym parts.1) i.sessions) in
     (same.scripts, same.picks)
 
+-- a pick is read as it is written
 pub as_written : (sessions : ℕ) (word : List ℕ) (pick : Pick) → ReadsAsWritten sessions word pick
 as_written sessions word pick = record { written = pick_is sessions word pick; read = pick_found sessions word pick }

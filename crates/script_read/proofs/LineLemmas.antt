@@ -32,6 +32,7 @@ parts_end : (v : Bool) (b : ℕ) → (b == 10) ≡ v → Parts (b ∷ [])
 parts_end true b e = rw e refl
 parts_end false b e = rw e refl
 
+-- the first line of bytes, and those behind it
 pub parts : (text : List ℕ) → 0 < length text → Parts text
 parts [] some = absurd (omega (arith, some))
 parts (b ∷ []) some = parts_end (b == 10) b refl
@@ -42,6 +43,7 @@ pub record Fits (text : List ℕ) : Type 0 where
   pub within : line_len text < length text
   pub whole : drop (line_len text + 1) text ≡ ended (lines_in (drop (line_len text + 1) text))
 
+-- the first line of whole lines fits, with its end
 pub fits : (text : List ℕ) → text ≡ ended (lines_in text) → 0 < length text → Fits text
 fits text whole some =
     let n : ℕ = line_len text in
@@ -68,6 +70,7 @@ joined_front (line ∷ lines) =
     let long : length (text ++ 10 ∷ []) - 1 ≡ length text = simp length-append (omega arith) in
     rw (end_last line lines, long) (take-append_seam text (10 ∷ []))
 
+-- the text of lines behind lines
 pub ended-append : (lines more : List (List ℕ)) → ended (lines ++ more) ≡ ended lines ++ ended more
 ended-append [] more = refl
 ended-append (line ∷ lines) more = ap (λ (text : List ℕ). with_end line ++ text) (ended-append lines more) ∙ sym (append_assoc (with_end line) (ended lines) (ended more))
@@ -83,6 +86,7 @@ pub record Behind (text : List ℕ) (n : ℕ) : Type 0 where
   pub lines : lines_in (drop (n + 1) text) ≡ drop 1 (lines_in text)
   pub whole : drop (n + 1) text ≡ ended (lines_in (drop (n + 1) text))
 
+-- what stands behind the first line of whole lines
 pub behind : (text : List ℕ) (n : ℕ) → n ≡ line_len text → text ≡ ended (lines_in text) → 0 < length (lines_in text) → Behind text n
 behind text n e whole some =
     let bytes : 0 < length text = some_bytes text some in
@@ -98,6 +102,7 @@ closed_more : (v : Bool) (b c : ℕ) (bs : List ℕ) → (b == 10) ≡ v → end
 closed_more true b c bs e = let same : b ≡ 10 = eqb-true b 10 e in rw (e, same) refl
 closed_more false b c bs e = rw (e, parts (c ∷ bs) (omega arith)) refl
 
+-- a text of which the last line may lack its end
 pub closed : (text : List ℕ) (b : ℕ) → ended (lines_in (text ++ b ∷ [])) ≡ (text ++ b ∷ []) ++ cond (not (b == 10)) (10 ∷ []) []
 closed [] b = closed_one (b == 10) b refl
 closed (c ∷ []) b = closed_more (c == 10) c b [] refl ∙ ap (λ (xs : List ℕ). c ∷ xs) (closed [] b)
@@ -107,6 +112,7 @@ kept_short : (v : Bool) (b most : ℕ) (bs : List ℕ) → length bs ≤ most �
 kept_short true b most bs h = omega arith
 kept_short false b most bs h = omega arith
 
+-- dropping returns adds no bytes
 pub length-without_returns : (bytes : List ℕ) → length (without_returns bytes) ≤ length bytes
 length-without_returns [] = omega arith
 length-without_returns (b ∷ bs) = kept_short (b == 13 && is_at_end bs) b (length bs) (without_returns bs) (length-without_returns bs)
@@ -124,11 +130,11 @@ pub lines_few : (text : List ℕ) → length (lines_in text) ≤ length text
 lines_few [] = omega arith
 lines_few (b ∷ bs) = lines_few_by (b == 10) b (length bs) (lines_in bs) (lines_few bs)
 
--- an end that the last line lacks adds no line
 last_one : (v : Bool) (b : ℕ) → (b == 10) ≡ v → lines_in (b ∷ cond (not v) (10 ∷ []) []) ≡ lines_in (b ∷ [])
 last_one true b e = refl
 last_one false b e = rw e refl
 
+-- an end that the last line lacks adds no line
 pub closed_lines : (text : List ℕ) (b : ℕ) → lines_in ((text ++ b ∷ []) ++ cond (not (b == 10)) (10 ∷ []) []) ≡ lines_in (text ++ b ∷ [])
 closed_lines [] b = last_one (b == 10) b refl
 closed_lines (c ∷ text) b = ap (λ (ls : List (List ℕ)). cond (c == 10) ([] ∷ ls) (before_first c ls)) (closed_lines text b)

@@ -19,9 +19,6 @@ pub record Played (n number : ℕ) (old : List (List ℕ)) (picks : List Pick) (
   pub lines : (more : List Pick) → ArePickLines n new more → ArePickLines n old (picks ++ more)
   pub few : length picks ≤ 1000000
 
-pub played_none : (n number : ℕ) (old : List (List ℕ)) → Played n number old [] number old
-played_none n number old = record { form = refl; lines = λ more h. h; few = omega arith }
-
 count_by : (v : Bool) (n : ℕ) → nat_le n 1000000 ≡ v → count_fault n ≡ None → n ≤ 1000000
 count_by true n e h = leb-true n 1000000 e
 count_by false n e h = cc (rw e at h)
@@ -64,11 +61,13 @@ played_all n number next old here picks h e = record {
   few = h.few;
 }
 
+-- the same where no fault was answered
 pub played_on : (n number next : ℕ) (old here rest : List (List ℕ)) (line : List ℕ) (picks new : List Pick) (o : Option Why) → ((w : Why) → o ≡ Some w → ⊥) → Played n number old picks next here → here ≡ line ∷ rest
     → AddsLine o n line picks new → Played n number old new (next + 1) rest
 played_on n number next old here rest line picks new None none h e a = played_more n number next old here rest line picks new h e a
 played_on n number next old here rest line picks new (Some w) none h e a = absurd (none w refl)
 
+-- the same where a fault was answered
 pub played_stop : (n number next : ℕ) (old here rest : List (List ℕ)) (line : List ℕ) (picks new : List Pick) (o : Option Why) (w : Why) → o ≡ Some w → Played n number old picks next here → here ≡ line ∷ rest
     → AddsLine o n line picks new → Refuses (Scheduled n 0) 0 number old (Refused next w)
 played_stop n number next old here rest line picks new o w f h e a =

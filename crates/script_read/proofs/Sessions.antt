@@ -15,7 +15,7 @@ use Rattle.script_read.specs.Faults.{Within, Fault, first_fault}
 use Rattle.script_read.specs.Limit.{Batch, batches, IsPast}
 use Rattle.script_read.specs.Refusal.{IsFirst, by_form, by_count, Refuses}
 use Rattle.script_read.specs.Script.{SayAll}
-use Rattle.script_read.specs.Steps.{ReadsBatch, PassesGo, first_goes, later, is_over, ReadsSession}
+use Rattle.script_read.specs.Steps.{ReadsBatch, PassesGo, later}
 use Rattle.script_read.proofs.BoolLemmas.{clash, both_hold, both, neither}
 use Rattle.script_read.proofs.Batches.{or_bad, batch_form, Facts, past_split, past_join}
 
@@ -50,6 +50,7 @@ letter_by true w b letter e f low high g = printable b (omega (arith, g)) (omega
 letter_by false true b letter e f low high g = printable b (omega (arith, g)) (omega (arith, g))
 letter_by false false b letter e f low high g = printable b (omega (arith, g)) (omega (arith, g))
 
+-- a letter in any case is text
 pub letter_text : (b letter : ℕ) → 97 ≤ letter → letter ≤ 122 → to_ascii_lowercase b ≡ letter → is_text_byte b ≡ true
 letter_text b letter low high e = letter_by (nat_lt b 65) (nat_lt b 91) b letter refl refl low high e
 
@@ -106,9 +107,6 @@ inner_one (line ∷ lines) h =
     let parts = both_hold (is_inner line) (list_all is_inner lines) h in
     rw ((neither (begins_with_colon line) (is_go line) parts.0).1, inner_one lines parts.1) refl
 
-onto_front : (line : List ℕ) (parts more : List (List (List ℕ))) (first : List (List ℕ)) → onto_first line ((first ∷ parts) ++ more) ≡ onto_first line (first ∷ parts) ++ more
-onto_front line parts more first = refl
-
 -- the parts of a list are never none
 pub record HasFirst (parts : List (List (List ℕ))) : Type 0 where
   pub first : List (List ℕ)
@@ -119,6 +117,7 @@ first_by : (v : Bool) (line : List ℕ) (parts : List (List (List ℕ))) → Has
 first_by true line parts h = record { first = []; others = parts; is = refl }
 first_by false line parts h = record { first = line ∷ h.first; others = h.others; is = rw h.is refl }
 
+-- a list has a first part
 pub has_first : (lines : List (List ℕ)) → HasFirst (slice_split is_go lines)
 has_first [] = record { first = []; others = []; is = refl }
 has_first (line ∷ lines) = first_by (is_go line) line (slice_split is_go lines) (has_first lines)
@@ -203,28 +202,6 @@ reading_more said stmts more number mid next old rest new go h is i =
       back = λ n m p. h.back n m (subst (λ (bs : List Batch). IsPast (said + length stmts) bs m) (sym (go_later n mid go rest is)) (i.back n m (subst (λ k. IsPast k (later (Within n) next new) m) (sym long) p)));
     }
 
-over_by : (v : Bool) (line : List ℕ) → begins_with_colon line ≡ v → is_inner line ≡ false → is_go line ≡ false → begins_with_colon line ≡ true
-over_by true line e h i = e
-over_by false line e h i = cc (rw (e, i) at h)
-
-over : (lines : List (List ℕ)) → first_is_inner lines ≡ false → first_goes lines ≡ false → is_over lines ≡ true
-over [] h i = refl
-over (line ∷ lines) h i = over_by (begins_with_colon line) line refl h i
-
--- a session was read
-pub session_read : (said : ℕ) (stmts : List Stmt) (number : ℕ) (old : List (List ℕ)) (next : ℕ) (new : List (List ℕ)) → Reading said stmts number old next new → first_goes new ≡ false
-    → ReadsSession said stmts number old next new
-session_read said stmts number old next new h e = record {
-  body = h.body;
-  split = h.split;
-  is = record { plain = h.plain; says = h.says };
-  over = over new h.stops e;
-  few = h.few;
-  form = h.form;
-  past = h.past;
-  back = h.back;
-}
-
 -- what is refused behind batches of a session is refused of it
 pub session_refused : (n said number mid : ℕ) (stmts : List Stmt) (old rest : List (List ℕ)) (go : List ℕ) (e : ScriptRefusal) → Reading said stmts number old mid (go ∷ rest) → is_go go ≡ true
     → Refuses (Within n) (said + length stmts) (mid + 1) rest e → Refuses (Within n) said number old e
@@ -245,6 +222,7 @@ more_refused n said count number mid next stmts old here rest e h (go, split, is
     let reading : Reading said stmts number old mid (go ∷ rest) = subst (λ (ls : List (List ℕ)). Reading said stmts number old mid ls) split h in
     session_refused n said number mid stmts old rest go e reading is (rw (← long, ← at) r)
 
+-- a batch more was read
 pub more_read : (said count number mid next last : ℕ) (stmts more : List Stmt) (old here rest new : List (List ℕ)) → Reading said stmts number old mid here → PassesGo true mid here next rest
     → count ≡ length stmts → ReadsBatch (said + count) more next rest last new → Reading said (stmts ++ more) number old last new
 more_read said count number mid next last stmts more old here rest new h (go, split, is, at) long r =

@@ -16,9 +16,7 @@ pub record Took (bad : Option ℕ) (number : ℕ) (old : List (List ℕ)) (next 
   pub bad_is : bad ≡ first_bad None number lines
   pub next_is : next ≡ number + length lines
 
-pub took_none : (number : ℕ) (old : List (List ℕ)) → Took None number old number old
-took_none number old = record { lines = []; split = refl; inner = refl; bad_is = refl; next_is = sym (add-zero number) }
-
+-- the first bad line of one line more
 pub first_bad-push : (bad : Option ℕ) (number : ℕ) (lines : List (List ℕ)) (line : List ℕ) → first_bad bad number (lines ++ line ∷ []) ≡ noted (first_bad bad number lines) (number + length lines) line
 first_bad-push bad number [] line = rw add-zero refl
 first_bad-push bad number (l ∷ lines) line =
@@ -30,6 +28,7 @@ all_push_by : (v : Bool) (test : List ℕ → Bool) (lines : List (List ℕ)) (l
 all_push_by true test lines line h next = next h
 all_push_by false test lines line h next = cc
 
+-- all pass, and one more
 pub all_push : (test : List ℕ → Bool) (lines : List (List ℕ)) (line : List ℕ) → list_all test lines ≡ true → test line ≡ true → list_all test (lines ++ line ∷ []) ≡ true
 all_push test [] line h i = rw i refl
 all_push test (l ∷ lines) line h i = all_push_by (test l) test lines line h (λ rest. all_push test lines line rest i)

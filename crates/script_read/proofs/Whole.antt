@@ -17,7 +17,7 @@ use Rattle.script_read.specs.Faults.{Place, InFront, Within, Scheduled, place_be
 use Rattle.script_read.specs.Limit.{Batch, batches, IsPast}
 use Rattle.script_read.specs.Refusal.{IsFirst, by_form, IsFirstOf, Refuses}
 use Rattle.script_read.specs.Script.{none, schedule, AreSessions}
-use Rattle.script_read.specs.Steps.{later, is_over, ReadsSession, ReadsPicks, place_at, is_front, is_front_over, SkipsFront, is_behind, IsLast, no_line, schedule_line, BeginsSession, RefusesLater, ReadsSessions, ReadsLast}
+use Rattle.script_read.specs.Steps.{later, is_over, ReadsSession, ReadsPicks, place_at, is_front, is_front_over, is_behind, IsLast, no_line, schedule_line, BeginsSession, RefusesLater, ReadsSessions, ReadsLast}
 use Rattle.script_read.proofs.BoolLemmas.{clash, both_hold, both, is_false}
 use Rattle.script_read.proofs.Batches.{later_from, past_from}
 use Rattle.script_read.proofs.Sessions.{first_on}
@@ -30,9 +30,7 @@ pub record Skipping (number : ℕ) (old : List (List ℕ)) (next : ℕ) (new : L
   pub skipped : list_all is_front front ≡ true
   pub next_is : next ≡ number + length front
 
-pub skip_none : (number : ℕ) (old : List (List ℕ)) → Skipping number old number old
-skip_none number old = record { front = []; split = refl; skipped = refl; next_is = sym (add-zero number) }
-
+-- one line more was taken
 pub skip_more : (number next : ℕ) (old here rest : List (List ℕ)) (line : List ℕ) → Skipping number old next here → here ≡ line ∷ rest → is_front line ≡ true → Skipping number old (next + 1) rest
 skip_more number next old here rest line h e is = record {
   front = h.front ++ line ∷ [];
@@ -41,14 +39,11 @@ skip_more number next old here rest line h e is = record {
   next_is = rw h.next_is (simp length-append (omega arith));
 }
 
-pub skip_all : (number next : ℕ) (old here : List (List ℕ)) → Skipping number old next here → is_front_over here ≡ true → SkipsFront number old next here
-skip_all number next old here h e = record { front = h.front; split = h.split; skipped = h.skipped; over = e; next_is = h.next_is }
-
--- a line in front begins no session
 front_by : (v : Bool) (b : ℕ) (bs : List ℕ) → (58 == b) ≡ v → is_skipped (b ∷ bs) ≡ true → is_session (b ∷ bs) ≡ false
 front_by true b bs e h = let same : 58 ≡ b = eqb-true 58 b e in absurd (clash (is_skipped (b ∷ bs)) h (ap (λ c. is_skipped (c ∷ bs)) (sym same)))
 front_by false b bs e h = rw e refl
 
+-- a line in front begins no session
 pub front_plain : (line : List ℕ) → is_skipped line ≡ true → is_session line ≡ false
 front_plain [] h = refl
 front_plain (b ∷ bs) h = front_by (58 == b) b bs refl h
@@ -62,6 +57,7 @@ front_form number (line ∷ front) rest h =
     let same : number + suc (length front) ≡ number + 1 + length front = omega arith in
     rw (here.0, here.1, front_plain line here.1, same) (front_form (number + 1) front rest parts.1)
 
+-- what stands in front has no batches
 pub front_batches : (number : ℕ) (front rest : List (List ℕ)) → list_all is_front front ≡ true → batches InFront number (front ++ rest) ≡ batches InFront (number + length front) rest
 front_batches number [] rest h = rw add-zero refl
 front_batches number (line ∷ front) rest h =
@@ -70,6 +66,7 @@ front_batches number (line ∷ front) rest h =
     let same : number + suc (length front) ≡ number + 1 + length front = omega arith in
     rw (front_plain line here.1, same) (front_batches (number + 1) front rest parts.1)
 
+-- before the first session no batch is open
 pub front_later : (number : ℕ) (lines : List (List ℕ)) → batches InFront number lines ≡ later InFront number lines
 front_later number [] = refl
 front_later number (line ∷ lines) = refl
@@ -118,6 +115,7 @@ pub last_is : (n : ℕ) (lines rest : List (List ℕ)) (line : List ℕ) → lin
 last_is n lines rest line e h f g =
     subst (λ (ls : List (List ℕ)). IsLast n ls) (sym e) (last_by (n == 0) n line rest refl (subst (λ (ls : List (List ℕ)). is_behind n ls ≡ true) e h) f g)
 
+-- where no line is left nothing comes
 pub last_none : (n : ℕ) (lines : List (List ℕ)) → lines ≡ [] → IsLast n lines
 last_none n lines e = subst (λ (ls : List (List ℕ)). IsLast n ls) (sym e) no_line
 
@@ -125,9 +123,11 @@ last_none n lines e = subst (λ (ls : List (List ℕ)). IsLast n ls) (sym e) no_
 pub sessions_none : (number : ℕ) (old : List (List ℕ)) → ReadsSessions [] number old number old
 sessions_none number old = record { spelled = λ more picks h. h; form = refl; past = λ m p. p; back = λ m p. p; few = omega arith; short = omega arith }
 
+-- one more than a number is not 0
 pub not_zero : (n : ℕ) → (n + 1 == 0) ≡ false
 not_zero n = is_false (n + 1 == 0) (λ e. let same : n + 1 ≡ 0 = eqb-true (n + 1) 0 e in absurd (omega (arith, same)))
 
+-- behind a session that begins, lines stand in it
 pub place_more : (n : ℕ) → place_at (n + 1) ≡ Within (n + 1)
 place_more n = rw not_zero refl
 
@@ -141,6 +141,7 @@ colon_by : (v : Bool) (b : ℕ) (bs : List ℕ) → (58 == b) ≡ v → is_sessi
 colon_by true b bs e h = let same : 58 ≡ b = eqb-true 58 b e in rw (← same) refl
 colon_by false b bs e h = cc (rw e at h)
 
+-- a session begins with a colon
 pub session_colon : (line : List ℕ) → is_session line ≡ true → begins_with_colon line ≡ true
 session_colon [] h = cc
 session_colon (b ∷ bs) h = colon_by (58 == b) b bs refl h
@@ -158,6 +159,7 @@ form_by false n line e h f =
     let parts = text_of (Within n) line (rw e at f) in
     rw (session_colon line h, h) at parts.1
 
+-- a session that can begin has the next number
 pub heading_number : (n : ℕ) (line : List ℕ) → is_session line ≡ true → fault_of (place_at n) line ≡ None → (number_of (number_part line) ≡ n + 1) × (n + 1 ≤ 64)
 heading_number n line h f = number_by (number_of (number_part line) == n + 1) (nat_lt n 64) n line refl refl (form_by (n == 0) n line refl h f)
 
@@ -175,11 +177,13 @@ heading_is n line h e =
     let parts = both_hold (starts_with nat_eq line session_word) (is_decimal (number_part line)) h in
     record { digits = number_part line; line_is = (starts_is Decides-eqb line session_word (starts_with nat_eq line session_word) refl).0 parts.0; number = record { form = parts.1; value = e } }
 
+-- behind a session's line its lines come
 pub place_form : (n number : ℕ) (line : List ℕ) (rest : List (List ℕ)) → is_session line ≡ true → fault_of (place_at n) line ≡ None
     → first_fault (place_at n) number (line ∷ rest) ≡ first_fault (Within (n + 1)) (number + 1) rest
 place_form n number line rest h f =
     ap (λ (o : Option Why). or_later number o (first_fault (place_behind (place_at n) line) (number + 1) rest)) f ∙ ap (λ (p : Place). first_fault p (number + 1) rest) (behind_heading n line h)
 
+-- behind a session's line its batches come
 pub place_later : (n number : ℕ) (line : List ℕ) (rest : List (List ℕ)) → is_session line ≡ true → later (place_at n) number (line ∷ rest) ≡ batches (Within (n + 1)) (number + 1) rest
 place_later n number line rest h = ap (λ (p : Place). batches p (number + 1) rest) (behind_heading n line h)
 
@@ -238,11 +242,13 @@ schedule_place n line h some =
     let same : line ≡ codes ":schedule" = (bytes_eq-Decides line (codes ":schedule")).0 h in
     rw (plain, same) refl
 
+-- behind the schedule's line its lines come
 pub schedule_form : (n number : ℕ) (line : List ℕ) (rest : List (List ℕ)) → is_schedule line ≡ true → 1 ≤ n → fault_of (place_at n) line ≡ None
     → first_fault (place_at n) number (line ∷ rest) ≡ first_fault (Scheduled n 0) (number + 1) rest
 schedule_form n number line rest h some f =
     ap (λ (o : Option Why). or_later number o (first_fault (place_behind (place_at n) line) (number + 1) rest)) f ∙ ap (λ (p : Place). first_fault p (number + 1) rest) (schedule_place n line h some)
 
+-- where no line is left there are no picks
 pub last_read_none : (n number : ℕ) (lines : List (List ℕ)) (picks : List Pick) → lines ≡ [] → picks ≡ [] → ReadsLast n number lines picks
 last_read_none n number lines picks e f = rw (e, f) (record { form = refl; is = none; few = omega arith })
 
@@ -259,6 +265,7 @@ last_read n number lines rest line picks (schedule_line l ls h f some) e r =
       few = there.few;
     }
 
+-- what is refused of the schedule is refused where its line stands
 pub last_refused : (n said number : ℕ) (lines rest : List (List ℕ)) (line : List ℕ) (e : ScriptRefusal) → IsLast n lines → lines ≡ line ∷ rest → Refuses (Scheduled n 0) 0 (number + 1) rest e
     → RefusesLater (place_at n) said number lines e
 last_refused n said number lines rest line Memory k e r = tt
@@ -281,15 +288,18 @@ pub record AtHeading (scripts : List (List Stmt)) (said number : ℕ) (old : Lis
   pub behind : is_behind (length scripts) new ≡ true
   pub counted : said ≡ sum_by length scripts
 
+-- before the first session none was read
 pub heading_none : (number : ℕ) (old : List (List ℕ)) → is_front_over old ≡ true → AtHeading [] 0 number old number old
 heading_none number old h = record { sessions = sessions_none number old; behind = h; counted = refl }
 
 heading_few : (n number next : ℕ) (lines rest : List (List ℕ)) → BeginsSession true n number lines next rest → n + 1 ≤ 64
 heading_few n number next lines rest (heading, split, is, f, at) = (heading_number n heading is f).1
 
+-- a session that begins has room
 pub heading_room : (scripts : List (List Stmt)) (began : Bool) (count number next : ℕ) (lines rest : List (List ℕ)) → began ≡ true → count ≡ length scripts → BeginsSession began count number lines next rest → length scripts < 64
 heading_room scripts began count number next lines rest e f b = omega (arith, heading_few (length scripts) number next lines rest (rw (e, f) at b))
 
+-- one session more was read
 pub heading_more : (scripts : List (List Stmt)) (stmts : List Stmt) (began : Bool) (count len said number mid next last : ℕ) (old here rest new : List (List ℕ)) → AtHeading scripts said number old mid here
     → began ≡ true → count ≡ length scripts → BeginsSession began count mid here next rest → ReadsSession said stmts next rest last new → len ≡ length stmts
     → AtHeading (scripts ++ stmts ∷ []) (said + len) number old last new
@@ -307,6 +317,7 @@ pub heading_refuses : (scripts : List (List Stmt)) (count said number mid : ℕ)
     → ((all : ℕ) → RefusesLater (place_at count) all mid here e) → RefusesLater InFront 0 number old e
 heading_refuses scripts count said number mid old here e h f r = sessions_refused scripts number mid old here e h.sessions (rw f at (r (sum_by length scripts)))
 
+-- what is refused of a session is refused of the script
 pub session_refuses : (scripts : List (List Stmt)) (began : Bool) (count said number mid next : ℕ) (old here rest : List (List ℕ)) (e : ScriptRefusal) → AtHeading scripts said number old mid here
     → began ≡ true → count ≡ length scripts → BeginsSession began count mid here next rest → ((n : ℕ) → Refuses (Within n) said next rest e) → RefusesLater InFront 0 number old e
 session_refuses scripts began count said number mid next old here rest e h g f b r =

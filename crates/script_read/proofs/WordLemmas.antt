@@ -1,5 +1,5 @@
 -- The words of a line, and the picks that they are.
-use Rattle.std.proofs.Common.{◌≡◌, ℕ, suc, ◌+◌, Bool, true, false, cond, List, [], ◌∷◌, ◌++◌, length, take, drop, arith, ap, sym, ◌∙◌, refl, inl, inr, ◌⊎◌, append_assoc, append-nil, Option}
+use Rattle.std.proofs.Common.{◌≡◌, ℕ, suc, ◌+◌, Bool, true, false, cond, List, [], ◌∷◌, ◌++◌, take, drop, arith, ap, sym, ◌∙◌, refl, inl, inr, ◌⊎◌, append_assoc, Option}
 use Rattle.std.specs.Prelude.{Some, None, ◌==◌, filter}
 use Rattle.std.specs.List.{prefix_len, slice_split}
 use Rattle.plain_model.specs.declared.pick.Pick.{Pick}
@@ -23,6 +23,7 @@ pieces_one false b bs e h =
     let two : 1 + n + 1 ≡ suc (n + 1) = omega arith in
     record { more = h.more; first = rw (e, h.first, one) refl; rest = rw (e, two) h.rest }
 
+-- the first piece of a line, and those behind it
 pub pieces : (line : List ℕ) → Pieces line
 pieces [] = record { more = []; first = refl; rest = inl (refl, refl) }
 pieces (b ∷ bs) = pieces_one (b == 32) b bs refl (pieces bs)
@@ -78,9 +79,6 @@ no_picks : (v : Bool) (sessions : ℕ) (word : List ℕ) (rest : List (List ℕ)
 no_picks true sessions word rest e h = rw e (no_pick (pick_of sessions word) (picks_of sessions rest) (rw e at h))
 no_picks false sessions word rest e h = cc (rw e at h)
 
-pub added_none : (sessions : ℕ) (line : List ℕ) (old : List Pick) → Added sessions line line old old
-added_none sessions line old = record { done = []; all = sym (prefixed_none (picks_of sessions (words line))); new_is = sym (append-nil old) }
-
 -- a word more was added
 pub added_more : (sessions : ℕ) (line rest : List ℕ) (old new next : List Pick) → Added sessions line rest old new → Adds true new next (picks_of sessions (with_word (take (prefix_len is_inside_word rest) rest) []))
     → Added sessions line (drop (prefix_len is_inside_word rest + 1) rest) old next
@@ -103,8 +101,3 @@ added_wrong sessions line rest old new next h e =
     let behind : List ℕ = drop (prefix_len is_inside_word rest + 1) rest in
     let step : picks_of sessions (words rest) ≡ None = ap (picks_of sessions) (words_first rest) ∙ no_picks (is_word word) sessions word (words behind) refl e in
     h.all ∙ ap (prefixed h.done) step
-
--- at the end all were added
-pub added_all : (sessions : ℕ) (line rest : List ℕ) (old new : List Pick) → Added sessions line rest old new → length rest ≡ 0 → Adds true old new (picks_of sessions (words line))
-added_all sessions line [] old new h e = (h.done, h.all ∙ ap Some (append-nil h.done), h.new_is)
-added_all sessions line (b ∷ bs) old new h e = absurd (omega (arith, e))

@@ -19,8 +19,8 @@ fn pass_statement(alloc: Global, parser: &mut Parser) -> Result<(), ParseRefusal
     Ok(())
 }
 
-/// The place of the first token of a statement, counted from 0. For 0 it is that of the first token of any batch. `Syntax` comes
-/// only where a statement before it isn't in the grammar, or the batch ends too early.
+/// The place of the first token of a statement, counted from 0. For 0 it is that of the first token of any batch. When an error
+/// comes isn't said: ask of batches that were read, and of their statements.
 pub fn statement_place(alloc: Global, batch: &[u8], number: usize) -> Result<u32, ParseRefusal>
     requires { length batch.now < 4294967295 }
     ensures { IfOk result (IsStmtPlace batch.now number) }

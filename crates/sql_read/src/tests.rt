@@ -1,6 +1,6 @@
 //! Batches that are read, and the places at which others are refused.
 
-use crate::{ParseRefusal, parse};
+use crate::{ParseRefusal, parse, statement_place};
 use page_base::{ColType, Column};
 use plain_model::{Expr, Items, SelectStmt, Stmt, StmtList};
 use std::alloc::{AllocError, Global};
@@ -460,4 +460,18 @@ fn snapshots_and_updates_have_their_trees(rt: HostRuntime) -> Result<(), Fail> {
         )
     );
     Ok(())
+}
+
+#[test]
+fn statements_have_places(rt: HostRuntime) {
+    // two bytes of white space, then six bytes each with the one behind
+    let batch = b" \nUSE a\tUSE\nb USE c";
+    for (number, place) in [(0, 2), (1, 8), (2, 14)] {
+        assert_eq!(rt;
+            statement_place(rt.alloc(), batch, number),
+            Ok(place),
+            "of {number}"
+        );
+    }
+    assert_eq!(rt; statement_place(rt.alloc(), b"\t) USE", 0), Ok(1));
 }
