@@ -18,10 +18,6 @@ pub record IsBody (body : List (List ℕ)) (stmts : List Stmt) : Type 0 where
   pub plain : list_all (λ line. not (begins_with_colon line)) body ≡ true
   pub says : SayAll (slice_split is_go body) stmts
 
--- no line
-abbrev pub AreNone : List (List ℕ) → List Pick → Type 0
-AreNone lines picks = (lines ≡ []) × (picks ≡ [])
-
 -- lines of picks
 abbrev pub ArePickLines : ℕ → List (List ℕ) → List Pick → Type 0
 ArePickLines sessions [] picks = picks ≡ []

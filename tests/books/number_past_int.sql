@@ -1,0 +1,2 @@
+:session 1
+USE shop INSERT t VALUES (1, 2147483648)
