@@ -1,0 +1,90 @@
+-- Single steps of the machine.
+use Rattle.std.specs.Prelude.{Option, Some, None, not}
+use Rattle.std.proofs.Common.{◌≡◌, ℕ, suc, zero, ◌-◌, ◌<◌, ◌≤◌, Bool, true, false, List, [], ◌∷◌, ◌++◌, ap, sym, ◌∙◌, refl, append_assoc, arith}
+use Rattle.plain_model.specs.Tree.{Tree}
+use Rattle.plain_model.specs.declared.expr.MathOp.TheVariants.{Sub}
+use Rattle.sql_lex.specs.declared.token.Token.{Token}
+use Rattle.sql_expr.specs.declared.role.Role.{Role}
+use Rattle.sql_expr.specs.declared.role.Role.TheVariants as role
+use Rattle.sql_expr.specs.declared.role.Level.{Level}
+use Rattle.sql_expr.specs.declared.role.Level.TheVariants.{Ors, Ands, Nots, Comps, Sums, Prods, Unaries}
+use Rattle.sql_expr.specs.Rules.{Rules, has_truth, Fits, HasRoom}
+use Rattle.sql_expr.specs.Grammar.{role_of, leaf, inner}
+use Rattle.sql_expr.specs.Symbols.{Part, Symbol, Want, May}
+use Rattle.sql_expr.specs.Machine.{Step, Take, Leave, Action, at_leaf, start_unary, start_comp, start_not, act, Next, Go, only_if, same, judged, opened, counted, carried_out, feed, WrongKind, TooDeep, TooMany}
+use Rattle.sql_expr.specs.Read.{run}
+use Rattle.sql_expr.proofs.Lists.{has}
+use Rattle.sql_expr.proofs.Sound.{FitsOption, HasRoomOption}
+
+-- a further operator may come where so many are spare
+abbrev pub MayCount : Rules → Bool → ℕ → Type 0
+MayCount r false spare = Unit {0}
+MayCount r true spare = r.operators ≡ true → 0 < spare
+
+-- how many are spare behind it
+abbrev pub less : Bool → ℕ → ℕ
+less false spare = spare
+less true spare = spare - 1
+
+same_fits : (kinds b truth : Bool) → (kinds ≡ true → b ≡ truth) → same kinds b truth ≡ true
+same_fits false b truth h = refl
+same_fits true true true h = refl
+same_fits true false true h = let e : false ≡ true = h refl in cc
+same_fits true true false h = let e : true ≡ false = h refl in cc
+same_fits true false false h = refl
+
+pub judged_on : (r : Rules) (o : Option Bool) (now : Part) (next : Next) → FitsOption r now o → judged r o now next ≡ next
+judged_on r None now next h = refl
+judged_on r (Some truth) now next h = rw (same_fits r.kinds (has_truth now.tree) truth h) refl
+
+no_room : (levels : Bool) → (levels ≡ true → 0 < 0) → not levels ≡ true
+no_room true h = absurd (omega (arith, h refl))
+no_room false h = refl
+
+pub opened_on : (r : Rules) (o : Option ℕ) (at : ℕ) (next : Next) → HasRoomOption r o → opened r o at next ≡ next
+opened_on r None at next h = refl
+opened_on r (Some zero) at next h = rw (no_room r.levels h) refl
+opened_on r (Some (suc n)) at next h = refl
+
+pub counted_on : (r : Rules) (b : Bool) (spare at : ℕ) (next : ℕ → Next) → MayCount r b spare → counted r b spare at next ≡ next (less b spare)
+counted_on r false spare at next h = refl
+counted_on r true zero at next h = rw (no_room r.operators h) refl
+counted_on r true (suc m) at next h = let e : suc m - 1 ≡ m = omega arith in rw e refl
+
+-- a token that is taken
+pub taken : (names : Bool) (r : Rules) (s : Symbol) (stack : List Symbol) (now : Part) (spare : ℕ) (t : Token) (rest : List Token) (a : Action) (symbols : List Symbol) (p : Part)
+    → act names s now t ≡ a → a.step ≡ Take symbols p → FitsOption r now a.judged → HasRoomOption r a.opens → MayCount r a.counts spare
+    → run names r (s ∷ stack) now spare (t ∷ rest) ≡ run names r (symbols ++ stack) p (less a.counts spare) rest
+taken names r s stack now spare t rest a symbols p is step fits room may = rw (is, judged_on r a.judged now _ fits, opened_on r a.opens t.at _ room, counted_on r a.counts spare t.at _ may, step) refl
+
+-- a token that is left to the symbols behind
+pub left : (names : Bool) (r : Rules) (s : Symbol) (stack : List Symbol) (now : Part) (spare : ℕ) (t : Token) (rest : List Token) (j : Option Bool) (p : Part)
+    → act names s now t ≡ record { judged = j; opens = None; counts = false; step = Leave p } → FitsOption r now j → run names r (s ∷ stack) now spare (t ∷ rest) ≡ run names r stack p spare (t ∷ rest)
+left names r s stack now spare t rest j p is fits = rw (is, judged_on r j now _ fits) refl
+
+-- the symbols behind the first of an expression may stand on the stack already
+shifted : (r : Rules) (k : Role) (n : ℕ) (tree : Option Tree) (at : ℕ) (now : Part) (xs ys stack : List Symbol) (spare : ℕ) (f g : Part → Next)
+    → carried_out r (start_unary k n tree at now (xs ++ ys)) stack now spare at f ≡ carried_out r (start_unary k n tree at now xs) (ys ++ stack) now spare at g
+shifted r role.Open n tree at now xs ys stack spare f g = rw (append_assoc xs ys stack) refl
+shifted r (role.Math Sub) n tree at now xs ys stack spare f g = rw (append_assoc xs ys stack) refl
+shifted r k n (Some e) at now xs ys stack spare f g = rw (append_assoc xs ys stack) refl
+shifted r k n None at now xs ys stack spare f g = refl
+
+shifted_not : (r : Rules) (k : Role) (n : ℕ) (tree : Option Tree) (at : ℕ) (now : Part) (xs ys stack : List Symbol) (spare : ℕ) (f g : Part → Next)
+    → carried_out r (start_not k n tree at now (xs ++ ys)) stack now spare at f ≡ carried_out r (start_not k n tree at now xs) (ys ++ stack) now spare at g
+shifted_not r role.Not n tree at now xs ys stack spare f g = rw (append_assoc xs ys stack) refl
+shifted_not r k n tree at now xs ys stack spare f g = shifted r k n tree at now (May n Prods ∷ May n Sums ∷ May n Comps ∷ May n Nots ∷ xs) ys stack spare f g
+
+abbrev pub is_not : Role → Bool
+is_not role.Not = true
+is_not _ = false
+
+abbrev pub starts_not : List Token → Bool
+starts_not [] = true
+starts_not (t ∷ ts) = is_not (role_of t)
+
+-- without NOT in front a comparison begins
+skipped_not : (r : Rules) (k : Role) (n : ℕ) (tree : Option Tree) (at : ℕ) (now : Part) (stack : List Symbol) (spare : ℕ) (f g : Part → Next) → is_not k ≡ false
+    → carried_out r (start_not k n tree at now []) stack now spare at f ≡ carried_out r (start_comp k n tree at now []) (May n Nots ∷ stack) now spare at g
+skipped_not r role.Not n tree at now stack spare f g h = cc
+skipped_not r k n tree at now stack spare f g h = shifted r k n tree at now (May n Prods ∷ May n Sums ∷ May n Comps ∷ []) (May n Nots ∷ []) stack spare f g
