@@ -336,12 +336,12 @@ EndsOutcome names r (Open stack now spare) ts out rest = Ends names r stack now 
 EndsOutcome names r (Ended now spare us) ts out rest = (now ≡ out) × (us ++ ts ≡ rest)
 EndsOutcome names r (Stopped why at) ts out rest = ⊥
 
-next_back : (names : Bool) (r : Rules) (next : Next) (t : Token) (more : List Symbol → Part → ℕ → Outcome) (front ts : List Token) (out : Part) (rest : List Token)
-    → ((s : List Symbol) (p : Part) (m : ℕ) → EndsOutcome names r (more s p m) ts out rest → Ends names r s p (front ++ ts) out rest) → EndsOutcome names r (go_on t front more next) ts out rest
+next_back : (names : Bool) (r : Rules) (next : Next) (t : Token) (onward_to : List Symbol → Part → ℕ → Outcome) (front ts : List Token) (out : Part) (rest : List Token)
+    → ((s : List Symbol) (p : Part) (m : ℕ) → EndsOutcome names r (onward_to s p m) ts out rest → Ends names r s p (front ++ ts) out rest) → EndsOutcome names r (go_on t front onward_to next) ts out rest
     → EndsNext (record { names = names; rules = r; token = t; behind = front ++ ts; out = out; rest = rest }) next
-next_back names r (Go s p m) t more front ts out rest ih h = ih s p m h
-next_back names r (Over p m) t more front ts out rest ih h = h
-next_back names r (Refuse why at) t more front ts out rest ih h = h
+next_back names r (Go s p m) t onward_to front ts out rest ih h = ih s p m h
+next_back names r (Over p m) t onward_to front ts out rest ih h = h
+next_back names r (Refuse why at) t onward_to front ts out rest ih h = h
 
 -- tokens are what the symbols stand for that they lead past
 pub run_back : (names : Bool) (r q : Rules) → IsLooser r q → (front ts : List Token) (out : Part) (rest : List Token) (s : List Symbol) (p : Part) (m : ℕ)

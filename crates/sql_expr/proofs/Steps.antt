@@ -10,9 +10,9 @@ use Rattle.sql_expr.specs.declared.role.Level.{Level}
 use Rattle.sql_expr.specs.declared.role.Level.TheVariants.{Ors, Ands, Nots, Comps, Sums, Prods, Unaries}
 use Rattle.sql_expr.specs.Rules.{Rules, has_truth, Fits, HasRoom}
 use Rattle.sql_expr.specs.Grammar.{role_of, leaf, inner}
-use Rattle.sql_expr.specs.Symbols.{Part, Symbol, Want, May}
+use Rattle.sql_expr.specs.Symbols.{Part, Symbol, Want, May, Judge, Denying}
 use Rattle.sql_expr.specs.Machine.{Step, Take, Leave, Action, at_leaf, start_unary, start_comp, start_not, act, Next, Go, only_if, same, judged, opened, counted, carried_out, feed, WrongKind, TooDeep, TooMany}
-use Rattle.sql_expr.specs.Read.{run}
+use Rattle.sql_expr.specs.Read.{go_on, run}
 use Rattle.sql_expr.proofs.Lists.{has}
 use Rattle.sql_expr.proofs.Sound.{FitsOption, HasRoomOption}
 
@@ -72,7 +72,7 @@ shifted r k n None at now xs ys stack spare f g = refl
 
 shifted_not : (r : Rules) (k : Role) (n : ℕ) (tree : Option Tree) (at : ℕ) (now : Part) (xs ys stack : List Symbol) (spare : ℕ) (f g : Part → Next)
     → carried_out r (start_not k n tree at now (xs ++ ys)) stack now spare at f ≡ carried_out r (start_not k n tree at now xs) (ys ++ stack) now spare at g
-shifted_not r role.Not n tree at now xs ys stack spare f g = rw (append_assoc xs ys stack) refl
+shifted_not r role.Not n tree at now xs ys stack spare f g = ap (λ (zs : List Symbol). opened r (Some n) at (counted r true spare at (λ m. Go (Want (n - 1) Nots ∷ Judge true (Denying at) ∷ zs) now m))) (append_assoc xs ys stack)
 shifted_not r k n tree at now xs ys stack spare f g = shifted r k n tree at now (May n Prods ∷ May n Sums ∷ May n Comps ∷ May n Nots ∷ xs) ys stack spare f g
 
 abbrev pub is_not : Role → Bool
@@ -88,3 +88,35 @@ skipped_not : (r : Rules) (k : Role) (n : ℕ) (tree : Option Tree) (at : ℕ) (
     → carried_out r (start_not k n tree at now []) stack now spare at f ≡ carried_out r (start_comp k n tree at now []) (May n Nots ∷ stack) now spare at g
 skipped_not r role.Not n tree at now stack spare f g h = cc
 skipped_not r k n tree at now stack spare f g h = shifted r k n tree at now (May n Prods ∷ May n Sums ∷ May n Comps ∷ []) (May n Nots ∷ []) stack spare f g
+
+enter_not : (names : Bool) (r : Rules) (n : ℕ) (stack : List Symbol) (now : Part) (spare : ℕ) (ts : List Token) → has ts ≡ true → starts_not ts ≡ false
+    → run names r (Want n Nots ∷ stack) now spare ts ≡ run names r (Want n Comps ∷ May n Nots ∷ stack) now spare ts
+enter_not names r n stack now spare [] some h = cc
+enter_not names r n stack now spare (t ∷ ts) some h =
+    ap (go_on t ts (λ s p m. run names r s p m ts))
+    (skipped_not r (role_of t) n (leaf names t.kind) t.at now stack spare (λ p. feed names r stack p spare t) (λ p. feed names r (May n Nots ∷ stack) p spare t) h)
+
+abbrev pub NotUnaries : Level → Type 0
+NotUnaries Unaries = ⊥
+NotUnaries _ = Unit {0}
+
+abbrev pub is_nots : Level → Bool
+is_nots Nots = true
+is_nots _ = false
+
+-- an expression of a level begins with one of the next, but for NOT
+pub enter : (names : Bool) (r : Rules) (n : ℕ) (l : Level) (stack : List Symbol) (now : Part) (spare : ℕ) (ts : List Token) → NotUnaries l → has ts ≡ true → (is_nots l ≡ true → starts_not ts ≡ false)
+    → run names r (Want n l ∷ stack) now spare ts ≡ run names r (Want n (inner l) ∷ May n l ∷ stack) now spare ts
+enter names r n Unaries stack now spare ts u some h = absurd u
+enter names r n Nots stack now spare ts u some h = enter_not names r n stack now spare ts some (h refl)
+enter names r n l stack now spare [] u some h = cc
+enter names r n Prods stack now spare (t ∷ ts) u some h =
+    ap (go_on t ts (λ s p m. run names r s p m ts)) (shifted r (role_of t) n (leaf names t.kind) t.at now [] (May n Prods ∷ []) stack spare (λ p. feed names r stack p spare t) (λ p. feed names r (May n Prods ∷ stack) p spare t))
+enter names r n Sums stack now spare (t ∷ ts) u some h =
+    ap (go_on t ts (λ s p m. run names r s p m ts)) (shifted r (role_of t) n (leaf names t.kind) t.at now (May n Prods ∷ []) (May n Sums ∷ []) stack spare (λ p. feed names r stack p spare t) (λ p. feed names r (May n Sums ∷ stack) p spare t))
+enter names r n Comps stack now spare (t ∷ ts) u some h =
+    ap (go_on t ts (λ s p m. run names r s p m ts)) (shifted r (role_of t) n (leaf names t.kind) t.at now (May n Prods ∷ May n Sums ∷ []) (May n Comps ∷ []) stack spare (λ p. feed names r stack p spare t) (λ p. feed names r (May n Comps ∷ stack) p spare t))
+enter names r n Ands stack now spare (t ∷ ts) u some h =
+    ap (go_on t ts (λ s p m. run names r s p m ts)) (shifted_not r (role_of t) n (leaf names t.kind) t.at now [] (May n Ands ∷ []) stack spare (λ p. feed names r stack p spare t) (λ p. feed names r (May n Ands ∷ stack) p spare t))
+enter names r n Ors stack now spare (t ∷ ts) u some h =
+    ap (go_on t ts (λ s p m. run names r s p m ts)) (shifted_not r (role_of t) n (leaf names t.kind) t.at now (May n Ands ∷ []) (May n Ors ∷ []) stack spare (λ p. feed names r stack p spare t) (λ p. feed names r (May n Ors ∷ stack) p spare t))
