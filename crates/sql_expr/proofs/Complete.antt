@@ -18,7 +18,7 @@ use Rattle.sql_expr.specs.Symbols.{Part, part, Frame, Joining, Negating, Denying
 use Rattle.sql_expr.specs.Machine.{Take, Leave, Action, plainly, opening, counting, judging, joining, at_leaf, start_unary, comparing, follow, act, Next, carried_out}
 use Rattle.sql_expr.specs.Read.{run}
 use Rattle.sql_expr.proofs.Lists.{place, place_append, has, has_append, has_some, onto_push}
-use Rattle.sql_expr.proofs.Steps.{MayCount, NotUnaries, is_nots, taken, left, is_not, starts_not, enter}
+use Rattle.sql_expr.proofs.Taking.{MayCount, NotUnaries, is_nots, taken, left, is_not, starts_not, enter}
 
 -- a token that makes a truth of a value
 abbrev pub compares : Role → Bool

@@ -1,4 +1,4 @@
 pub mod Lists
 pub mod Sound
-pub mod Steps
+pub mod Taking
 pub mod Complete
