@@ -13,21 +13,12 @@ use Rattle.sql_expr.specs.declared.role.Role.TheVariants as role
 use Rattle.sql_expr.specs.declared.role.Level.{Level}
 use Rattle.sql_expr.specs.declared.role.Level.TheVariants.{Ors, Ands, Nots, Comps, Sums, Prods, Unaries}
 use Rattle.sql_expr.specs.Rules.{Rules, Fits, HasRoom, IsWithin}
-use Rattle.sql_expr.specs.Grammar.{word_role, kind_role, role_of, null_of, column_of, leaf, joins, joins_truths, joined, inner, negated, IsNotOption, IsExpr, Follows, AreEntries, one, brackets, minus, negation, onward, nothing, chain, compare, is_null, between, within, last, more}
+use Rattle.sql_expr.specs.Grammar.{word_role, kind_role, role_of, null_of, column_of, leaf, joins, joins_truths, compares, joined, inner, negated, IsNotOption, IsExpr, Follows, AreEntries, one, brackets, minus, negation, onward, nothing, chain, compare, is_null, between, within, last, more}
 use Rattle.sql_expr.specs.Symbols.{Part, part, Frame, Joining, Negating, Denying, Bounding, framed, Symbol, Want, May, Judge, Shut, Nullness, NullAfterNot, AfterNot, Low, Opens, Entry, onto, null_test, membership}
 use Rattle.sql_expr.specs.Machine.{Take, Leave, Action, plainly, opening, counting, judging, joining, at_leaf, start_unary, comparing, follow, act, Next, carried_out}
 use Rattle.sql_expr.specs.Read.{run}
 use Rattle.sql_expr.proofs.Lists.{place, place_append, has, has_append, has_some, onto_push}
 use Rattle.sql_expr.proofs.Taking.{MayCount, NotUnaries, is_nots, taken, left, is_not, starts_not, enter}
-
--- a token that makes a truth of a value
-abbrev pub compares : Role → Bool
-compares (role.Compare op) = true
-compares role.Is = true
-compares role.Not = true
-compares role.Between = true
-compares role.In = true
-compares _ = false
 
 -- the token goes on with an operand at the level
 abbrev pub takes : Level → Role → Bool

@@ -1,4 +1,5 @@
 pub mod Lists
+pub mod Ranks
 pub mod Sound
 pub mod Taking
 pub mod Complete

@@ -13,6 +13,7 @@ use Rattle.sql_expr.specs.Grammar.{role_of, leaf, inner}
 use Rattle.sql_expr.specs.Symbols.{Part, Symbol, Want, May, Judge, Denying}
 use Rattle.sql_expr.specs.Machine.{Step, Take, Leave, Action, at_leaf, start_unary, start_comp, start_not, act, Next, Go, only_if, same, judged, opened, counted, carried_out, feed, WrongKind, TooDeep, TooMany}
 use Rattle.sql_expr.specs.Read.{go_on, run}
+use Rattle.sql_expr.specs.Steps.{IsJoined}
 use Rattle.sql_expr.proofs.Lists.{has}
 use Rattle.sql_expr.proofs.Sound.{FitsOption, HasRoomOption}
 
@@ -120,3 +121,20 @@ enter names r n Ands stack now spare (t ∷ ts) u some h =
     ap (go_on t ts (λ s p m. run names r s p m ts)) (shifted_not r (role_of t) n (leaf names t.kind) t.at now [] (May n Ands ∷ []) stack spare (λ p. feed names r stack p spare t) (λ p. feed names r (May n Ands ∷ stack) p spare t))
 enter names r n Ors stack now spare (t ∷ ts) u some h =
     ap (go_on t ts (λ s p m. run names r s p m ts)) (shifted_not r (role_of t) n (leaf names t.kind) t.at now (May n Ands ∷ []) (May n Ors ∷ []) stack spare (λ p. feed names r stack p spare t) (λ p. feed names r (May n Ors ∷ stack) p spare t))
+
+not_nots : (l : Level) → IsJoined l → is_nots l ≡ true → ⊥
+not_nots Nots j h = j
+not_nots Ors j h = cc
+not_nots Ands j h = cc
+not_nots Comps j h = cc
+not_nots Sums j h = cc
+not_nots Prods j h = cc
+not_nots Unaries j h = cc
+
+not_unaries : (l : Level) → IsJoined l → NotUnaries l
+not_unaries Unaries j = j
+not_unaries _ j = tt
+
+pub enter_joined : (names : Bool) (r : Rules) (n : ℕ) (l : Level) (stack : List Symbol) (now : Part) (spare : ℕ) (ts : List Token) → IsJoined l → has ts ≡ true
+    → run names r (Want n l ∷ stack) now spare ts ≡ run names r (Want n (inner l) ∷ May n l ∷ stack) now spare ts
+enter_joined names r n l stack now spare ts j some = enter names r n l stack now spare ts (not_unaries l j) some (λ h. absurd (not_nots l j h))

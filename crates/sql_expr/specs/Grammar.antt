@@ -100,6 +100,15 @@ joins_truths role.Or = true
 joins_truths role.And = true
 joins_truths _ = false
 
+-- it makes a truth of a value
+abbrev pub compares : Role → Bool
+compares (role.Compare op) = true
+compares role.Is = true
+compares role.Not = true
+compares role.Between = true
+compares role.In = true
+compares _ = false
+
 -- the tree of an operator and its operands
 abbrev pub joined : Role → Tree → Tree → Tree
 joined role.Or a b = Or a b

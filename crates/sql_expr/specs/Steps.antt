@@ -19,6 +19,7 @@ use Rattle.sql_expr.specs.declared.steps.Joint.{Joint}
 use Rattle.sql_expr.specs.declared.steps.Opened.{Opened}
 use Rattle.sql_expr.specs.declared.steps.Start.{Start}
 use Rattle.sql_expr.specs.declared.steps.Start.TheVariants as start
+use Rattle.sql_expr.specs.declared.reader.Listing.{Listing}
 use Rattle.sql_expr.specs.declared.tree.Read.{Read}
 use Rattle.sql_expr.specs.Rules.{strict}
 use Rattle.sql_expr.specs.Grammar.{joins_truths, inner, role_of}
@@ -94,3 +95,20 @@ noted names n stack now spare rest None = run names strict (Want n Comps ∷ May
 abbrev pub listed : Bool → ℕ → Bool → Part → List Tree → List Symbol → Read → List Token → Option ℕ → Outcome
 listed names n negative left before stack now rest (Some spare) = run names strict (Want n Ors ∷ Entry n negative left (before ++ tree_of now.tree ∷ []) ∷ stack) (part_of now) spare rest
 listed names n negative left before stack now rest None = run names strict stack (membership negative left (onto before (Last (tree_of now.tree)))) now.spare rest
+
+-- the levels at which something may follow an operand
+abbrev pub IsJoined : Level → Type 0
+IsJoined Unaries = ⊥
+IsJoined Nots = ⊥
+IsJoined _ = Unit {0}
+
+-- the levels at which operators join operands
+abbrev pub IsChain : Level → Type 0
+IsChain Unaries = ⊥
+IsChain Nots = ⊥
+IsChain Comps = ⊥
+IsChain _ = Unit {0}
+
+-- the entries of a list were read to its end
+abbrev pub listing : Bool → Bool → Part → List Tree → List Symbol → List Token → Listing → Outcome
+listing names negative left before stack rest list = run names strict stack (membership negative left (onto before (entries_of list.entries))) list.spare rest

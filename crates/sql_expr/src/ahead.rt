@@ -4,7 +4,7 @@ ghost use Rattle.std.specs.Prelude.{◌≡◌, ◌∷◌, ◌-◌, true, IfOk, o
 ghost use Rattle.plain_model.specs.Tree.{tree_of};
 ghost use Rattle.sql_lex.specs.declared.refusal.ParseRefusal.TheVariants.{Syntax};
 ghost use Rattle.sql_lex.specs.Ahead.{first_of, behind_first};
-ghost use Rattle.sql_expr.specs.Grammar.{word_role, mark_role, kind_role, role_of, leaf, joins, joins_truths};
+ghost use Rattle.sql_expr.specs.Grammar.{word_role, mark_role, kind_role, role_of, leaf, joins, joins_truths, compares};
 ghost use Rattle.sql_expr.specs.Rules.{has_truth};
 ghost use Rattle.sql_expr.specs.Steps.{IsCons, Uses, is_part};
 
@@ -159,6 +159,16 @@ pub(crate) fn joins_truths(role: Role) -> bool
 {
     match role {
         Role::Or | Role::And => true,
+        _ => false,
+    }
+}
+
+// Whether it may begin what makes a truth of a value.
+pub(crate) fn compares(role: Role) -> bool
+    ensures { result ≡ compares role }
+{
+    match role {
+        Role::Compare(_) | Role::Is | Role::Not | Role::Between | Role::In => true,
         _ => false,
     }
 }

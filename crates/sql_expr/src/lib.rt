@@ -2,6 +2,7 @@
 #![tactic(auto)]
 
 mod ahead;
+mod reader;
 mod role;
 mod steps;
 mod tree;
