@@ -3,3 +3,4 @@ pub mod Ranks
 pub mod Sound
 pub mod Taking
 pub mod Complete
+pub mod Promises

@@ -5,3 +5,4 @@ pub mod Symbols
 pub mod Machine
 pub mod Read
 pub mod Steps
+pub mod Laws
