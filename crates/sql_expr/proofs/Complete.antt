@@ -68,7 +68,7 @@ tight_inner Ands h = cc
 tight_inner Nots h = cc
 
 -- a token that is an expression is a leaf or NULL
-abbrev is_leaf : Role → Bool
+abbrev pub is_leaf : Role → Bool
 is_leaf role.Leaf = true
 is_leaf role.Null = true
 is_leaf _ = false
@@ -77,7 +77,7 @@ null_leaf : (k : Role) (e : Tree) → null_of k ≡ Some e → is_leaf k ≡ tru
 null_leaf role.Null e h = refl
 null_leaf _ e h = cc
 
-leaf_role : (names : Bool) (k : TokenKind) (e : Tree) → leaf names k ≡ Some e → is_leaf (kind_role k) ≡ true
+pub leaf_role : (names : Bool) (k : TokenKind) (e : Tree) → leaf names k ≡ Some e → is_leaf (kind_role k) ≡ true
 leaf_role names (kind.Key word) e h = null_leaf (word_role word) e h
 leaf_role names (kind.Named name) e h = refl
 leaf_role names (kind.Bracketed name) e h = refl
@@ -217,7 +217,7 @@ skip : (names : Bool) (r : Rules) (n : ℕ) (l : Level) (stack : List Symbol) (n
 skip names r n l stack now spare [] h = cc
 skip names r n l stack now spare (t ∷ ts) h = left names r (May n l) stack now spare t ts None now (not_follow l (role_of t) n now (not_takes l (role_of t) h)) tt
 
-judge : (names : Bool) (r : Rules) (truth : Bool) (frame : Frame) (now : Part) (stack : List Symbol) (spare : ℕ) (rest : List Token) → has rest ≡ true → Fits r now.tree truth
+pub judge : (names : Bool) (r : Rules) (truth : Bool) (frame : Frame) (now : Part) (stack : List Symbol) (spare : ℕ) (rest : List Token) → has rest ≡ true → Fits r now.tree truth
     → run names r (Judge truth frame ∷ stack) now spare rest ≡ run names r stack (framed frame now) spare rest
 judge names r truth frame now stack spare [] some h = cc
 judge names r truth frame now stack spare (t ∷ ts) some h = left names r (Judge truth frame) stack now spare t ts (Some truth) (framed frame now) refl h

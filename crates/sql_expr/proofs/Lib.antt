@@ -4,3 +4,7 @@ pub mod Sound
 pub mod Taking
 pub mod Complete
 pub mod Promises
+pub mod Agreement
+pub mod Viable
+pub mod LawLemmas
+pub mod Answering

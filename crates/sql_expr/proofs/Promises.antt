@@ -16,7 +16,7 @@ use Rattle.sql_expr.specs.Rules.{Rules, has_truth}
 use Rattle.sql_expr.specs.Grammar.{word_role, role_of, null_of, column_of, leaf, joins, joins_truths, joined, negated, IsNotOption, IsExpr, Follows, AreEntries, one, brackets, minus, negation, onward, nothing, chain, compare, is_null, between, within, last, more}
 use Rattle.sql_expr.specs.Laws.{is_printed, are_printed}
 
-both : (a b : Bool) → a ≡ true → b ≡ true → (a && b) ≡ true
+pub both : (a b : Bool) → a ≡ true → b ≡ true → (a && b) ≡ true
 both true true h k = refl
 both false b h k = cc
 both true false h k = cc
@@ -148,7 +148,7 @@ abbrev pub PassLeaves : (Tree → Bool) → Bool → List Token → Type 0
 PassLeaves p names [] = Unit {0}
 PassLeaves p names (t ∷ ts) = PassLeaf p names t × PassLeaves p names ts
 
-pass_front : (p : Tree → Bool) (names : Bool) (ts us : List Token) → PassLeaves p names (ts ++ us) → PassLeaves p names ts
+pub pass_front : (p : Tree → Bool) (names : Bool) (ts us : List Token) → PassLeaves p names (ts ++ us) → PassLeaves p names ts
 pass_front p names [] us h = tt
 pass_front p names (t ∷ ts) us h = (h.0, pass_front p names ts us h.1)
 

@@ -29,6 +29,14 @@ abbrev pub IsBehind : List Token → Type 0
 IsBehind [] = ⊥
 IsBehind (t ∷ ts) = goes_on (role_of t) ≡ false
 
+-- some token is of no expression, as the one at their end
+pub record HasEnd (ts : List Token) : Type 0 where
+  pub front : List Token
+  pub token : Token
+  pub others : List Token
+  pub split : ts ≡ front ++ token ∷ others
+  pub other : role_of token ≡ role.Other
+
 -- a text has printable bytes alone
 abbrev pub is_printed : TokenKind → Bool
 is_printed (kind.Text text) = list_all is_printable text
@@ -60,6 +68,11 @@ broken WrongKind = record { kinds = true; levels = false; operators = false }
 broken TooDeep = record { kinds = false; levels = true; operators = false }
 broken TooMany = record { kinds = false; levels = false; operators = true }
 
+-- the place of a refusal is the token's, or a part's that is of the wrong kind
+abbrev pub IsPlace : Fault → ℕ → Token → Type 0
+IsPlace WrongKind at t = Unit {0}
+IsPlace _ at t = at ≡ t.at
+
 -- The tokens are refused at this place: an expression begins with the front, whatever its kinds and limits, and none that keeps the
 -- broken rule begins with the front and the token behind it.
 pub record IsRefused (names truth : Bool) (ts : List Token) (why : Fault) (at : ℕ) : Type 0 where
@@ -68,4 +81,5 @@ pub record IsRefused (names truth : Bool) (ts : List Token) (why : Fault) (at : 
   pub others : List Token
   pub split : ts ≡ front ++ token ∷ others
   pub before : Begins names loose truth front
+  pub place : IsPlace why at token
   pub none : Begins names (broken why) truth (front ++ token ∷ []) → ⊥

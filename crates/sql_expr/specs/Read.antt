@@ -42,14 +42,19 @@ got (Open stack now spare) = Refused 0
 got (Ended now spare rest) = Done now.tree rest
 got (Stopped why at) = Refused at
 
--- The value, or the truth, in front of tokens: as many of them as can be one expression, and its tree. Where what stands there is
+-- The truth, or the value, in front of tokens: as many of them as can be one expression, and its tree. Where what stands there is
 -- refused, the place is that of the first token that can't stand, or opens level 101, or is operator 1,001, or with which a part
 -- begins that is a truth in the place of a value, or a value in the place of a truth: such a part is refused as soon as it is complete.
-unfoldable pub read_value : Bool → List Token → Got Tree
-read_value names ts = got (reading names strict false ts)
+unfoldable pub read_front : Bool → Bool → List Token → Got Tree
+read_front names truth ts = got (reading names strict truth ts)
 
-unfoldable pub read_truth : List Token → Got Tree
-read_truth ts = got (reading true strict true ts)
+-- a value, in which names of columns may stand or not
+abbrev pub read_value : Bool → List Token → Got Tree
+read_value names ts = read_front names false ts
+
+-- a truth
+abbrev pub read_truth : List Token → Got Tree
+read_truth ts = read_front true true ts
 
 -- an answer, and the tokens that it leaves, are what these tokens give; want of memory alone is free
 abbrev pub Answers : Result Expr ParseRefusal → Got Tree → List Token → Type 0

@@ -1,13 +1,12 @@
 //! Reads an expression level by level; no call is under more others than the levels and lists of the expression need.
 
-ghost use Rattle.std.specs.Prelude.{◌≡◌, ◌∷◌, ◌++◌, ◌≢◌, ◌≤◌, true, false, [], Bool, ℕ, List, length};
+ghost use Rattle.std.specs.Prelude.{◌≡◌, ◌∷◌, ◌++◌, ◌≢◌, ◌≤◌, false, [], Bool, ℕ, List, length};
 ghost use Rattle.plain_model.specs.Tree.{Tree, In, tree_of, entries_of};
 ghost use Rattle.sql_expr.specs.declared.role.Level.TheVariants as levels;
 ghost use Rattle.sql_expr.specs.Grammar.{inner};
 ghost use Rattle.sql_expr.specs.Rules.{strict};
-ghost use Rattle.sql_expr.specs.Got.{Got};
 ghost use Rattle.sql_expr.specs.Symbols.{Part, Symbol, Want, May, Low, Entry, onto, membership};
-ghost use Rattle.sql_expr.specs.Read.{run, reading, got, Answers};
+ghost use Rattle.sql_expr.specs.Read.{run};
 ghost use Rattle.sql_expr.specs.Steps.{IsCons, IsChain, part_of, Passes, listing};
 
 use crate::ahead::{joins_truths, role_ahead};
@@ -19,13 +18,9 @@ use crate::tree::{
     Read, between, denied, joined, last, membership, more, null_test, opposite,
 };
 use crate::{Level, Role};
-use plain_model::{Expr, InRest};
+use plain_model::InRest;
 use sql_lex::{ParseRefusal, Tokens};
 use std::alloc::Global;
-
-// So many levels may open, and so many operators come.
-const MOST_LEVELS: u32 = 100;
-const MOST_OPERATORS: u32 = 1000;
 
 // A list of entries, and how many operators may still come behind it.
 #[derive(Drop)]
@@ -35,7 +30,7 @@ pub(crate) struct Listing {
 }
 
 // Something comes next.
-fn there(tokens: &Tokens<'_>)
+pub(crate) fn there(tokens: &Tokens<'_>)
     ensures { IsCons tokens.now }
 {
     let _role = role_ahead(tokens);
@@ -43,7 +38,7 @@ fn there(tokens: &Tokens<'_>)
 
 // An expression of the level.
 #[cycle(reading)]
-fn expression(
+pub(crate) fn expression(
     alloc: Global,
     tokens: &mut Tokens<'_>,
     names: bool,
@@ -261,19 +256,4 @@ fn unary(
             })
         }
     }
-}
-
-// An expression of a kind, as much of the tokens as can be one.
-pub(crate) fn read(
-    alloc: Global,
-    tokens: &mut Tokens<'_>,
-    names: bool,
-    truth: bool,
-) -> Result<Expr, ParseRefusal>
-    ensures { Answers result (got (reading names strict truth tokens.old)) tokens.new }
-{
-    let read = expression(alloc, tokens, names, MOST_LEVELS, MOST_OPERATORS, Level::Ors)?;
-    judge(tokens, &read, truth)?;
-    there(tokens);
-    Ok(read.tree)
 }
