@@ -1,26 +1,21 @@
--- One cutting, one reading, one place.
+-- One reading, one place.
 use Rattle.std.proofs.Common.{◌≡◌, ℕ, Bool, true, false, List, [], ◌∷◌, ◌++◌, length, arith, ap, sym, ◌∙◌, refl, subst, append_assoc, inl, inr, ◌⊎◌, length-append}
 use Rattle.std.proofs.lemmas.List.{map-append}
 use Rattle.std.specs.Prelude.{ℤ, flat_map, codes}
 use Rattle.plain_model.specs.declared.stmt.Stmt.{Stmt}
-use Rattle.sql_read.specs.declared.token.Mark.TheVariants as mark
-use Rattle.sql_read.specs.declared.token.Token.{Token}
-use Rattle.sql_read.specs.declared.token.TokenKind.{TokenKind}
-use Rattle.sql_read.specs.declared.token.TokenKind.TheVariants.{Key, Named, Text, Mark, End}
-use Rattle.sql_read.specs.declared.keyword.Keyword.TheVariants as word
-use Rattle.sql_read.specs.declared.context_word.ContextWord.TheVariants as place
-use Rattle.sql_read.specs.Words.{letters_of}
-use Rattle.sql_read.specs.Tokens.{kinds}
-use Rattle.sql_read.specs.Cut.{tokens_from, cut}
+use Rattle.sql_lex.specs.declared.token.Mark.TheVariants as mark
+use Rattle.sql_lex.specs.declared.token.Token.{Token}
+use Rattle.sql_lex.specs.declared.token.TokenKind.{TokenKind}
+use Rattle.sql_lex.specs.declared.token.TokenKind.TheVariants.{Key, Named, Text, Mark, End}
+use Rattle.sql_lex.specs.declared.keyword.Keyword.TheVariants as word
+use Rattle.sql_lex.specs.declared.context_word.ContextWord.TheVariants as place
+use Rattle.sql_lex.specs.Words.{letters_of}
+use Rattle.sql_lex.specs.Tokens.{kinds}
 use Rattle.sql_read.specs.Grammar.{IsStmt, use_database, create_table, create_snap, insert_row, update_rows, select_all, AreStmts, FileText, AreFiles, more_file, more_number, more_column}
 use Rattle.sql_read.specs.Place.{Begins, IsFull, IsWrong}
-use Rattle.sql_read.specs.Laws.{HasOneCutting, HasOneReading, HasOnePlace}
-use Rattle.sql_read.proofs.CuttingLaws.{cut_lexes, lexes_cut}
-use Rattle.sql_read.proofs.FileLemmas.{short_file_name}
-
-pub one_cutting : (batch : List ℕ) → HasOneCutting batch
-unfolding tokens_from
-one_cutting batch = (cut 0 0 batch, cut_lexes batch, (λ us h. lexes_cut 0 batch us h))
+use Rattle.sql_read.specs.Laws.{HasOneReading, HasOnePlace}
+use Rattle.sql_lex.proofs.Cutting.{one_list}
+use Rattle.sql_lex.proofs.FileLemmas.{short_file_name}
 
 numbers_one : (ns ms : List ℤ) (rest more : List TokenKind) → flat_map more_number ns ++ Mark mark.Close ∷ rest ≡ flat_map more_number ms ++ Mark mark.Close ∷ more → (ns ≡ ms) × (rest ≡ more)
 numbers_one [] [] rest more e = (refl, cc)
@@ -110,7 +105,7 @@ stmts_one limited ks (s ∷ ss) (u ∷ us) (front, rest, split, is, others) (aft
 
 pub one_reading : (batch : List ℕ) → HasOneReading batch
 one_reading batch = λ ss us h i.
-    let same : h.tokens ≡ i.tokens = lexes_cut 0 batch h.tokens h.lexes ∙ sym (lexes_cut 0 batch i.tokens i.lexes) in
+    let same : h.tokens ≡ i.tokens = one_list batch h.tokens i.tokens h.lexes i.lexes in
     stmts_one true (kinds h.tokens) ss us h.stmts_are (rw same i.stmts_are)
 
 -- where two splits of a list part

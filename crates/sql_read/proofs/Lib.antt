@@ -1,13 +1,6 @@
-pub mod BoolLemmas
-pub mod TextLemmas
-pub mod Lexing
-pub mod FileLemmas
-pub mod Cutting
 pub mod Spelling
 pub mod Passing
 pub mod Soundness
-pub mod CuttingLaws
-pub mod WordLemmas
 pub mod Reaching
 pub mod Meaning
 pub mod Refusing

@@ -1,26 +1,26 @@
 -- What tokens may follow where some symbols are due, and that the table keeps to it.
 use Rattle.std.proofs.Common.{◌≡◌, ℕ, ◌+◌, Bool, true, false, cond, List, [], ◌∷◌, ◌++◌, length, arith, ap, sym, ◌∙◌, refl, subst, Option, append_assoc, inl, inr, ◌⊎◌}
-use Rattle.std.specs.Prelude.{ℤ, pos, Some, None, nat_le, ◌&&◌, ◌==◌, flat_map, codes}
+use Rattle.std.specs.Prelude.{ℤ, pos, Some, None, nat_le, ◌&&◌, flat_map, codes}
 use Rattle.page_base.specs.FileName.{IsFileName, last_part}
-use Rattle.sql_read.specs.declared.context_word.ContextWord.{ContextWord}
-use Rattle.sql_read.specs.declared.context_word.ContextWord.TheVariants as place
+use Rattle.sql_lex.specs.declared.context_word.ContextWord.{ContextWord}
+use Rattle.sql_lex.specs.declared.context_word.ContextWord.TheVariants as place
 use Rattle.std.proofs.lemmas.Slice.Eq.{bytes_eq-Decides}
 use Rattle.plain_model.specs.declared.stmt.Stmt.{Stmt}
-use Rattle.sql_read.specs.declared.keyword.Keyword.{Keyword}
-use Rattle.sql_read.specs.declared.keyword.Keyword.TheVariants as word
-use Rattle.sql_read.specs.declared.token.Mark.{Mark}
-use Rattle.sql_read.specs.declared.token.Mark.TheVariants as mark
-use Rattle.sql_read.specs.declared.token.TokenKind.{TokenKind}
-use Rattle.sql_read.specs.declared.token.TokenKind.TheVariants as kind
-use Rattle.sql_read.specs.declared.token.TokenKind.TheVariants.{Named, Number, Text, End}
-use Rattle.sql_read.specs.Words.{text_of, is_same, keyword_of, letters_of}
-use Rattle.sql_read.specs.Texts.{quoted}
-use Rattle.sql_read.proofs.WordLemmas.{keyword_found, keyword_spelled, name_spelled, word_spelled}
-use Rattle.sql_read.proofs.FileLemmas.{is_file_name_is, short_file_name}
-use Rattle.sql_read.specs.Tokens.{byte_of, Spells}
-use Rattle.sql_read.proofs.Writing.{AreSpelled, spelled_both}
+use Rattle.sql_lex.specs.declared.keyword.Keyword.{Keyword}
+use Rattle.sql_lex.specs.declared.keyword.Keyword.TheVariants as word
+use Rattle.sql_lex.specs.declared.token.Mark.{Mark}
+use Rattle.sql_lex.specs.declared.token.Mark.TheVariants as mark
+use Rattle.sql_lex.specs.declared.token.TokenKind.{TokenKind}
+use Rattle.sql_lex.specs.declared.token.TokenKind.TheVariants as kind
+use Rattle.sql_lex.specs.declared.token.TokenKind.TheVariants.{Named, Number, Text, End}
+use Rattle.sql_lex.specs.Words.{sign_of, text_of, is_same, keyword_of, letters_of}
+use Rattle.sql_lex.specs.Texts.{quoted}
+use Rattle.sql_lex.proofs.WordLemmas.{mark_spelled, same_mark, keyword_found, keyword_spelled, name_spelled, word_spelled}
+use Rattle.sql_lex.proofs.FileLemmas.{is_file_name_is, short_file_name}
+use Rattle.sql_lex.specs.Tokens.{is_end, Spells}
+use Rattle.sql_lex.proofs.Writing.{AreSpelled, spelled_both}
 use Rattle.sql_read.specs.Grammar.{IsStmt, use_database, create_table, create_snap, insert_row, update_rows, select_all, AreStmts, MayHave, FileText, AreFiles, file_tokens, more_file, more_number, more_column}
-use Rattle.sql_read.specs.Table.{Symbol, Key, Word, Sign, AnyName, AnyNumber, AnyPath, Part, MoreNumbers, MoreColumns, MoreFiles, Created, MoreStmts, Finish, is_key, is_word, is_mark, is_name, is_number, is_path, is_end, table_rest, file_symbols, snap_rest, insert_rest, update_rest, select_rest, feed, start}
+use Rattle.sql_read.specs.Table.{Symbol, Key, Word, Sign, AnyName, AnyNumber, AnyPath, Part, MoreNumbers, MoreColumns, MoreFiles, Created, MoreStmts, Finish, is_key, is_word, is_mark, is_name, is_number, is_path, table_rest, file_symbols, snap_rest, insert_rest, update_rest, select_rest, feed, start}
 
 -- statements one behind the other
 abbrev pub Behind : Bool → List TokenKind → List Stmt → Type 0
@@ -69,24 +69,18 @@ same_word a b h = let letters : text_of a ≡ text_of b = (bytes_eq-Decides (tex
 key_is : (w : Keyword) (k : TokenKind) → is_key w k ≡ true → k ≡ kind.Key w
 key_is w (kind.Key found) h = ap kind.Key (same_word found w h)
 key_is w (Named name) h = cc
+key_is w (kind.Bracketed name) h = cc
 key_is w (Number n) h = cc
 key_is w (kind.Mark m) h = cc
 key_is w (Text text) h = cc
 key_is w kind.Bad h = cc
 key_is w End h = cc
 
-same_mark : (a b : Mark) → (byte_of a == byte_of b) ≡ true → a ≡ b
-same_mark mark.Open mark.Open h = refl
-same_mark mark.Close mark.Close h = refl
-same_mark mark.Comma mark.Comma h = refl
-same_mark mark.Star mark.Star h = refl
-same_mark mark.Equals mark.Equals h = refl
-same_mark _ _ h = cc
-
 pub mark_is : (m : Mark) (k : TokenKind) → is_mark m k ≡ true → k ≡ kind.Mark m
 mark_is m (kind.Mark found) h = ap kind.Mark (same_mark found m h)
 mark_is m (kind.Key w) h = cc
 mark_is m (Named name) h = cc
+mark_is m (kind.Bracketed name) h = cc
 mark_is m (Number n) h = cc
 mark_is m (Text text) h = cc
 mark_is m kind.Bad h = cc
@@ -95,6 +89,7 @@ mark_is m End h = cc
 name_is : (k : TokenKind) → is_name k ≡ true → (name : List ℕ) × (k ≡ Named name)
 name_is (Named name) h = (name, refl)
 name_is (kind.Key w) h = cc
+name_is (kind.Bracketed name) h = cc
 name_is (Number n) h = cc
 name_is (kind.Mark m) h = cc
 name_is (Text text) h = cc
@@ -102,6 +97,7 @@ name_is kind.Bad h = cc
 name_is End h = cc
 
 number_is : (k : TokenKind) → is_number k ≡ true → (n : ℤ) × (k ≡ Number n)
+number_is (kind.Bracketed name) h = cc
 number_is (Number n) h = (n, refl)
 number_is (Named name) h = cc
 number_is (kind.Key w) h = cc
@@ -112,6 +108,7 @@ number_is End h = cc
 
 end_is : (k : TokenKind) → is_end k ≡ true → k ≡ End
 end_is End h = refl
+end_is (kind.Bracketed name) h = cc
 end_is (Number n) h = cc
 end_is (Named name) h = cc
 end_is (kind.Key w) h = cc
@@ -122,6 +119,7 @@ end_is kind.Bad h = cc
 word_is : (w : ContextWord) (k : TokenKind) → is_word w k ≡ true → k ≡ Named (letters_of w)
 word_is w (Named name) h = ap Named ((bytes_eq-Decides name (letters_of w)).0 h)
 word_is w (kind.Key found) h = cc
+word_is w (kind.Bracketed name) h = cc
 word_is w (Number n) h = cc
 word_is w (Text text) h = cc
 word_is w (kind.Mark m) h = cc
@@ -140,6 +138,7 @@ pub path_is : (limited : Bool) (k : TokenKind) → is_path limited k ≡ true �
 path_is limited (Text text) h = (text, refl, path_text limited text h)
 path_is limited (Named name) h = cc
 path_is limited (kind.Key found) h = cc
+path_is limited (kind.Bracketed name) h = cc
 path_is limited (Number n) h = cc
 path_is limited (kind.Mark m) h = cc
 path_is limited kind.Bad h = cc
@@ -282,7 +281,7 @@ abbrev spelled_word : (w : Keyword) → (kind.Key w ≡ End) ⊎ ((bytes : List 
 spelled_word w = inr (text_of w, keyword_spelled w)
 
 abbrev spelled_mark : (m : Mark) → (kind.Mark m ≡ End) ⊎ ((bytes : List ℕ) × Spells bytes (kind.Mark m))
-spelled_mark m = inr (byte_of m ∷ [], refl)
+spelled_mark m = inr (sign_of m, mark_spelled m)
 
 short_name_spelled : Spells (codes "a") (Named (codes "a"))
 short_name_spelled = name_spelled (codes "a") ((refl, refl, refl), refl, refl) refl
@@ -302,7 +301,7 @@ complete limited (AnyPath ∷ st) room = let c = complete limited st room in (Te
 complete limited (MoreFiles parts ∷ st) room = let c = complete limited st room.1 in (c.0, c.1, ([], c.0, refl, (λ l. omega (arith, room.0 l)), tt, c.2))
 complete limited (Created ∷ st) room = let c = complete limited st room in
     (short_table ++ c.0, spelled_both short_table c.0 short_table_spelled c.1, (short_table, c.0, _, refl, create_table (codes "a") (codes "a") [] (λ l. omega arith), c.2))
-complete limited (Sign m ∷ st) room = let c = complete limited st room in (kind.Mark m ∷ c.0, (inr (byte_of m ∷ [], refl), c.1), (c.0, refl, c.2))
+complete limited (Sign m ∷ st) room = let c = complete limited st room in (kind.Mark m ∷ c.0, (inr (sign_of m, mark_spelled m), c.1), (c.0, refl, c.2))
 complete limited (AnyName ∷ st) room = let c = complete limited st room in (Named (codes "a") ∷ c.0, (inr (codes "a", name_spelled (codes "a") ((refl, refl, refl), refl, refl) refl), c.1), (codes "a", c.0, refl, c.2))
 complete limited (AnyNumber ∷ st) room = let c = complete limited st room in (Number (pos 0) ∷ c.0, (inr (codes "0", ((refl, refl), omega arith, refl)), c.1), (pos 0, c.0, refl, c.2))
 complete limited (Part others ∷ st) room = complete limited st room.1

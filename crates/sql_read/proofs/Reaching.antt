@@ -2,16 +2,16 @@
 use Rattle.std.proofs.Common.{◌≡◌, ℕ, suc, ◌+◌, Bool, true, false, List, [], ◌∷◌, ◌++◌, length, arith, ap, ◌∙◌, refl, Option, append_assoc, add-zero}
 use Rattle.std.specs.Prelude.{ℤ, Some, None, nat_le, ◌&&◌, flat_map}
 use Rattle.page_base.specs.FileName.{IsFileName, last_part}
-use Rattle.sql_read.specs.declared.context_word.ContextWord.TheVariants as place
-use Rattle.sql_read.specs.declared.keyword.Keyword.TheVariants as word
+use Rattle.sql_lex.specs.declared.context_word.ContextWord.TheVariants as place
+use Rattle.sql_lex.specs.declared.keyword.Keyword.TheVariants as word
 use Rattle.std.proofs.lemmas.Bool.{lt-leb}
 use Rattle.plain_model.specs.declared.stmt.Stmt.{Stmt}
-use Rattle.sql_read.specs.declared.token.Mark.TheVariants as mark
-use Rattle.sql_read.specs.declared.token.TokenKind.{TokenKind}
-use Rattle.sql_read.specs.declared.token.TokenKind.TheVariants.{Mark, Text}
+use Rattle.sql_lex.specs.declared.token.Mark.TheVariants as mark
+use Rattle.sql_lex.specs.declared.token.TokenKind.{TokenKind}
+use Rattle.sql_lex.specs.declared.token.TokenKind.TheVariants.{Mark, Text}
 use Rattle.sql_read.specs.Grammar.{IsStmt, use_database, create_table, create_snap, insert_row, update_rows, select_all, AreStmts, MayHave, FileText, AreFiles, file_tokens, more_file, more_number, more_column}
 use Rattle.sql_read.specs.Table.{Symbol, Key, Word, AnyName, Sign, MoreNumbers, MoreColumns, MoreFiles, file_symbols, is_path, feed, start}
-use Rattle.sql_read.proofs.FileLemmas.{file_name_passes}
+use Rattle.sql_lex.proofs.FileLemmas.{file_name_passes}
 
 abbrev pub and_then : (List Symbol → Option (List Symbol)) → Option (List Symbol) → Option (List Symbol)
 and_then go None = None

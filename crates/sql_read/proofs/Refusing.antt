@@ -4,29 +4,29 @@ use Rattle.std.specs.Prelude.{Some, None, nat_le, ◌&&◌, Result, Err, IfErr}
 use Rattle.page_base.specs.FileName.{IsFileName, last_part}
 use Rattle.std.proofs.lemmas.Bool.{le-leb, lt-leb, leb-true, cases_lt}
 use Rattle.plain_model.specs.declared.stmt.Stmt.{Stmt}
-use Rattle.sql_read.specs.declared.context_word.ContextWord.TheVariants as place
-use Rattle.sql_read.specs.declared.keyword.Keyword.TheVariants as word
-use Rattle.sql_read.specs.declared.token.Mark.TheVariants as mark
-use Rattle.sql_read.specs.declared.token.Token.{Token}
-use Rattle.sql_read.specs.declared.token.TokenKind.{TokenKind}
-use Rattle.sql_read.specs.declared.token.TokenKind.TheVariants as kind
-use Rattle.sql_read.specs.declared.token.TokenKind.TheVariants.{Text}
-use Rattle.sql_read.specs.Tokens.{Lexes, kinds, Spells}
-use Rattle.sql_read.specs.Cut.{tokens_from}
+use Rattle.sql_lex.specs.declared.context_word.ContextWord.TheVariants as place
+use Rattle.sql_lex.specs.declared.keyword.Keyword.TheVariants as word
+use Rattle.sql_lex.specs.declared.token.Mark.TheVariants as mark
+use Rattle.sql_lex.specs.declared.token.Token.{Token}
+use Rattle.sql_lex.specs.declared.token.TokenKind.{TokenKind}
+use Rattle.sql_lex.specs.declared.token.TokenKind.TheVariants as kind
+use Rattle.sql_lex.specs.declared.token.TokenKind.TheVariants.{Text}
+use Rattle.sql_lex.specs.Tokens.{Lexes, kinds, Spells, is_end}
 use Rattle.sql_read.specs.Grammar.{IsBatch}
 use Rattle.sql_read.specs.Place.{Begins, IsNoFile, IsWrong, IsRefusedAt, IsRefusal}
-use Rattle.sql_read.specs.declared.refusal.ParseRefusal.{ParseRefusal}
-use Rattle.sql_read.specs.declared.refusal.ParseRefusal.TheVariants.{Syntax, Memory}
+use Rattle.sql_lex.specs.declared.refusal.ParseRefusal.{ParseRefusal}
+use Rattle.sql_lex.specs.declared.refusal.ParseRefusal.TheVariants.{Syntax, Memory}
 use Rattle.sql_read.specs.Steps.{FailsTo}
-use Rattle.sql_read.specs.Table.{Symbol, Key, Word, Sign, AnyName, AnyNumber, AnyPath, Part, MoreNumbers, MoreColumns, MoreFiles, Created, MoreStmts, Finish, file_symbols, insert_rest, update_rest, select_rest, feed, start, run, onward, Verdict, Stops, is_mark, is_key, is_word, is_name, is_number, is_path, is_file_name, is_end}
+use Rattle.sql_read.specs.Table.{Symbol, Key, Word, Sign, AnyName, AnyNumber, AnyPath, Part, MoreNumbers, MoreColumns, MoreFiles, Created, MoreStmts, Finish, file_symbols, insert_rest, update_rest, select_rest, feed, start, run, onward, Verdict, Stops, is_mark, is_key, is_word, is_name, is_number, is_path}
 use Rattle.std.proofs.lemmas.List.{map-append}
-use Rattle.sql_read.proofs.CuttingLaws.{cut_lexes, lexes_cut}
+use Rattle.sql_lex.proofs.Cutting.{one_list}
 use Rattle.sql_read.proofs.Reaching.{and_then, steps, steps_append, steps_stmts}
-use Rattle.sql_read.proofs.Writing.{AreSpelled, AreCut, spelled_front, spelled_both, write_stmts, cut_kinds}
-use Rattle.sql_read.specs.Texts.{quoted}
-use Rattle.sql_read.proofs.FileLemmas.{file_name_passes, file_name_printable, last_part-name}
+use Rattle.sql_read.proofs.Writing.{write_stmts}
+use Rattle.sql_lex.proofs.Writing.{AreSpelled, AreCut, spelled_front, spelled_both, cut_kinds}
+use Rattle.sql_lex.specs.Texts.{quoted, is_file_name}
+use Rattle.sql_lex.proofs.FileLemmas.{file_name_passes, file_name_printable, last_part-name}
 use Rattle.sql_read.proofs.Meaning.{Means, IsOpen, TextOf, step_back, complete, means_batch, passed, either, not_full, mark_is, path_is}
-use Rattle.sql_read.proofs.BoolLemmas.{clash}
+use Rattle.sql_lex.proofs.BoolLemmas.{clash}
 
 -- a part too many comes next
 abbrev pub is_full : List Symbol → Bool
@@ -47,7 +47,7 @@ part_open parts next st s k comma same room = elim (cases_lt parts 64) [
 ]
 
 files_open : (parts : ℕ) (st s : List Symbol) (k : TokenKind) → k ≡ kind.Mark mark.Comma → (Part parts ∷ (file_symbols ++ MoreFiles (parts + 1) ∷ st)) ≡ s → IsOpen true st → Follows k s
-files_open parts st s k comma same room = part_open parts (Sign mark.Open) (Word place.Name ∷ Sign mark.Equals ∷ AnyName ∷ Sign mark.Comma ∷ Word place.Filename ∷ Sign mark.Equals ∷ AnyPath ∷ Sign mark.Close ∷ MoreFiles (parts + 1) ∷ st) s k comma same (λ few. ((λ l. few), room))
+files_open parts st s k comma same room = part_open parts (Sign mark.Open) (Word place.Name ∷ Sign mark.Equal ∷ AnyName ∷ Sign mark.Comma ∷ Word place.Filename ∷ Sign mark.Equal ∷ AnyPath ∷ Sign mark.Close ∷ MoreFiles (parts + 1) ∷ st) s k comma same (λ few. ((λ l. few), room))
 
 stmts_open : (st s : List Symbol) (k : TokenKind) (o : Option (List Symbol)) → IsOpen true st → (o ≡ Some s → Follows k s)
     → cond (is_key word.Use k) (Some (AnyName ∷ MoreStmts ∷ st)) (cond (is_key word.Create k) (Some (Created ∷ MoreStmts ∷ st)) (cond (is_key word.Insert k) (Some (insert_rest ++ MoreStmts ∷ st)) (cond (is_key word.Update k) (Some (update_rest ++ MoreStmts ∷ st)) (cond (is_key word.Select k) (Some (select_rest ++ MoreStmts ∷ st)) o)))) ≡ Some s
@@ -156,6 +156,7 @@ loosen_path : (st : List Symbol) (k : TokenKind) → Loosens (AnyPath ∷ st) k
 loosen_path st (Text text) = path_wanted st text (is_file_name (last_part text)) refl
 loosen_path st (kind.Key w) = inl refl
 loosen_path st (kind.Named name) = inl refl
+loosen_path st (kind.Bracketed name) = inl refl
 loosen_path st (kind.Number n) = inl refl
 loosen_path st (kind.Mark m) = inl refl
 loosen_path st kind.Bad = inl refl
@@ -446,17 +447,17 @@ stuck_why front k reached spelled cut goes stuck = elim (reach start reached fro
 never : (batch : List ℕ) (stmts : List Stmt) (front : List Token) (t : Token) (rest : List Token) (reached : List Symbol) → steps true start (kinds front) ≡ Some reached → feed true reached t.kind ≡ None
     → Lexes 0 batch (front ++ t ∷ rest) → IsBatch batch stmts → ⊥
 never batch stmts front t rest reached goes stuck cut b =
-    let same : b.tokens ≡ front ++ t ∷ rest = lexes_cut 0 batch b.tokens b.lexes ∙ sym (lexes_cut 0 batch _ cut) in
+    let same : b.tokens ≡ front ++ t ∷ rest = one_list batch b.tokens _ b.lexes cut in
     let all : steps true start (kinds (front ++ t ∷ rest)) ≡ Some [] = ap (λ (ts : List Token). steps true start (kinds ts)) (sym same) ∙ steps_stmts true (kinds b.tokens) stmts b.stmts_are in
     let parts : kinds (front ++ t ∷ rest) ≡ kinds front ++ t.kind ∷ kinds rest = map-append (λ (u : Token). u.kind) front (t ∷ rest) in
     let none : steps true start (kinds (front ++ t ∷ rest)) ≡ None = ap (steps true start) parts ∙ steps_append true start (kinds front) (t.kind ∷ kinds rest) ∙ rw (goes, stuck) refl in
     cc
 
 -- the batch is refused where the table stops
-pub refused : (batch : List ℕ) (at : ℕ) → run true start (tokens_from batch 0) ≡ Stops at → IsRefusedAt batch at
-refused batch at e =
-    let h = run_stuck true start (tokens_from batch 0) at e in
-    let cut : Lexes 0 batch (h.front ++ h.token ∷ h.rest) = rw h.split at (cut_lexes batch) in
+pub refused : (batch : List ℕ) (ts : List Token) (at : ℕ) → Lexes 0 batch ts → run true start ts ≡ Stops at → IsRefusedAt batch at
+refused batch ts at lexes e =
+    let h = run_stuck true start ts at e in
+    let cut : Lexes 0 batch (h.front ++ h.token ∷ h.rest) = rw h.split at lexes in
     let parts : kinds (h.front ++ h.token ∷ h.rest) ≡ kinds h.front ++ h.token.kind ∷ kinds h.rest = map-append (λ (u : Token). u.kind) h.front (h.token ∷ h.rest) in
     let all : AreCut (kinds h.front ++ h.token.kind ∷ kinds h.rest) = subst AreCut parts (cut_kinds 0 batch _ cut) in
     let spelled : AreSpelled (kinds h.front) = taken_spelled start h.reached (kinds h.front) (h.token.kind ∷ kinds h.rest) all h.goes in
@@ -471,10 +472,11 @@ refused batch at e =
       none = λ stmts b. never batch stmts h.front h.token h.rest h.reached h.goes h.stuck cut b;
     }
 
-right_refusal : (batch : List ℕ) (e : ParseRefusal) (after : Verdict) → run true start (tokens_from batch 0) ≡ after → FailsTo e after → IsRefusal batch e
-right_refusal batch Memory after same h = tt
-right_refusal batch (Syntax at) after same h = refused batch at (same ∙ h)
+right_refusal : (batch : List ℕ) (ts : List Token) (e : ParseRefusal) (after : Verdict) → Lexes 0 batch ts → run true start ts ≡ after → FailsTo e after → IsRefusal batch e
+right_refusal batch ts Memory after lexes same h = tt
+right_refusal batch ts (Syntax at) after lexes same h = refused batch ts at lexes (same ∙ h)
 
 -- the exit of a `?`, after tokens that led to another verdict
-pub refused_exit : {Y : Type 0} (batch : List ℕ) (r : Result Y ParseRefusal) (y e : ParseRefusal) (after : Verdict) → r ≡ Err y → y ≡ e → run true start (tokens_from batch 0) ≡ after → FailsTo e after → IfErr r (IsRefusal batch)
-refused_exit batch r y e after p q same h = rw (p, q) (right_refusal batch e after same h)
+pub refused_exit : {Y : Type 0} (batch : List ℕ) (ts : List Token) (r : Result Y ParseRefusal) (y e : ParseRefusal) (after : Verdict) → Lexes 0 batch ts → r ≡ Err y → y ≡ e → run true start ts ≡ after → FailsTo e after
+    → IfErr r (IsRefusal batch)
+refused_exit batch ts r y e after lexes p q same h = rw (p, q) (right_refusal batch ts e after lexes same h)

@@ -8,7 +8,7 @@ use Rattle.page_base.specs.declared.column.Column.{Column}
 use Rattle.plain_model.specs.declared.expr.Expr as expr
 use Rattle.plain_model.specs.declared.stmt.Stmt.{Stmt}
 use Rattle.plain_model.specs.Sound.{is_sound, is_entry, are_columns, are_distinct, is_definition, is_column}
-use Rattle.sql_read.specs.declared.token.TokenKind.{TokenKind}
+use Rattle.sql_lex.specs.declared.token.TokenKind.{TokenKind}
 use Rattle.sql_read.specs.Grammar.{IsStmt, use_database, create_table, create_snap, insert_row, update_rows, select_all, key_column, plain_column}
 
 numbers_are_entries : (ns : List ℤ) → list_all is_entry (map (λ n. expr.Number n) ns) ≡ true

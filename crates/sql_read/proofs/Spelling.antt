@@ -13,19 +13,20 @@ use Rattle.plain_model.specs.declared.expr.Expr.{Expr}
 use Rattle.plain_model.specs.declared.stmt.Stmt.TheVariants.{UseDb, CreateTable, CreateSnap, Insert, Update, Select}
 use Rattle.plain_model.specs.declared.stmt.SnapFile.{SnapFile}
 use Rattle.plain_model.specs.declared.stmt.Items.TheVariants as items
-use Rattle.sql_read.specs.declared.keyword.Keyword.TheVariants as word
-use Rattle.sql_read.specs.declared.token.Mark.TheVariants as mark
-use Rattle.sql_read.specs.declared.token.Token.{Token}
-use Rattle.sql_read.specs.declared.token.TokenKind.{TokenKind}
-use Rattle.sql_read.specs.declared.token.TokenKind.TheVariants.{Key, Named, Number, Mark}
-use Rattle.sql_read.specs.declared.context_word.ContextWord.TheVariants as place
-use Rattle.sql_read.specs.Words.{letters_of}
+use Rattle.sql_lex.specs.declared.keyword.Keyword.TheVariants as word
+use Rattle.sql_lex.specs.declared.token.Mark.TheVariants as mark
+use Rattle.sql_lex.specs.declared.token.Token.{Token}
+use Rattle.sql_lex.specs.declared.token.TokenKind.{TokenKind}
+use Rattle.sql_lex.specs.declared.token.TokenKind.TheVariants.{Key, Named, Number, Mark}
+use Rattle.sql_lex.specs.declared.context_word.ContextWord.TheVariants as place
+use Rattle.sql_lex.specs.Words.{letters_of}
 use Rattle.page_base.specs.FileName.{IsFileName, last_part}
-use Rattle.sql_read.specs.Tokens.{token}
+use Rattle.sql_lex.specs.Tokens.{token, is_end}
 use Rattle.sql_read.specs.Grammar.{use_database, create_table, create_snap, insert_row, update_rows, select_all, FileText, AreFiles, file_tokens, more_file, file_of, more_number, more_column, key_column, plain_column, without_twins}
 use Rattle.sql_read.specs.Table as symbol
-use Rattle.sql_read.specs.Table.{Symbol, AnyName, AnyNumber, Part, MoreNumbers, MoreColumns, MoreFiles, Created, file_symbols, table_rest, is_mark, is_key, is_end, start, select_rest, run, onward}
-use Rattle.sql_read.specs.Steps.{Reads, ReadsNumber, ReadsNumbers, number_in, ReadsColumns, ReadsKeyColumn, ReadsPlainColumn, ReadsPath, ReadsFile, ReadsFiles, first_place, begins_with}
+use Rattle.sql_read.specs.Table.{Symbol, AnyName, AnyNumber, Part, MoreNumbers, MoreColumns, MoreFiles, Created, file_symbols, table_rest, is_mark, is_key, start, select_rest, run, onward}
+use Rattle.sql_read.specs.Steps.{Reads, ReadsNumber, ReadsNumbers, number_in, ReadsColumns, ReadsKeyColumn, ReadsPlainColumn, ReadsPath, ReadsFile, ReadsFiles, begins_with}
+use Rattle.sql_lex.specs.Ahead.{first_of, is_over}
 
 pub reads_use : (name : List ℕ) (old new : List TokenKind) → old ≡ Named name ∷ new → Reads (UseDb name) (Key word.Use ∷ old) new
 reads_use name old new e = record { used = Key word.Use ∷ Named name ∷ []; split = ap (λ (ks : List TokenKind). Key word.Use ∷ ks) e; is = use_database name }
@@ -50,10 +51,10 @@ reads_create name cols old mid end new front h close = record {
   is = rw h.cols_are (create_table name h.first h.others (λ limited. h.few));
 }
 
-pub reads_update : (name col : List ℕ) (e : Expr) (old mid new : List TokenKind) → old ≡ Named name ∷ Key word.Set ∷ Named col ∷ Mark mark.Equals ∷ mid → ReadsNumber e mid new
+pub reads_update : (name col : List ℕ) (e : Expr) (old mid new : List TokenKind) → old ≡ Named name ∷ Key word.Set ∷ Named col ∷ Mark mark.Equal ∷ mid → ReadsNumber e mid new
     → Reads (Update (record { table = name; sets = record { col = col; to = e } ∷ []; filter = None })) (Key word.Update ∷ old) new
 reads_update name col e old mid new front number = record {
-  used = Key word.Update ∷ Named name ∷ Key word.Set ∷ Named col ∷ Mark mark.Equals ∷ Number (number_in e) ∷ [];
+  used = Key word.Update ∷ Named name ∷ Key word.Set ∷ Named col ∷ Mark mark.Equal ∷ Number (number_in e) ∷ [];
   split = rw (front, number.1) refl;
   is = rw number.0 (update_rows name col (number_in e));
 }
@@ -62,7 +63,7 @@ abbrev file_with : List ℕ → List ℕ → SnapFile
 file_with logical path = record { logical = logical; path = path }
 
 pub reads_file : (logical path : List ℕ) (old mid after new : List TokenKind)
-    → old ≡ Mark mark.Open ∷ Named (letters_of place.Name) ∷ Mark mark.Equals ∷ Named logical ∷ Mark mark.Comma ∷ Named (letters_of place.Filename) ∷ Mark mark.Equals ∷ mid
+    → old ≡ Mark mark.Open ∷ Named (letters_of place.Name) ∷ Mark mark.Equal ∷ Named logical ∷ Mark mark.Comma ∷ Named (letters_of place.Filename) ∷ Mark mark.Equal ∷ mid
     → ReadsPath path mid after → after ≡ Mark mark.Close ∷ new → ReadsFile (record { logical = logical; path = path }) old new
 reads_file logical path old mid after new front h close = record {
   written = record { logical = logical; path = h.text };
@@ -107,7 +108,7 @@ pub files_over : (ts : List Token) (parts : ℕ) (st : List Symbol) → begins_w
 files_over [] parts st h = refl
 files_over (t ∷ ts) parts st h = rw h refl
 
-pub files_on : (old new after : List Token) (files : List SnapFile) (file : SnapFile) (st : List Symbol) → old ≡ token (first_place old) (Mark mark.Comma) ∷ new
+pub files_on : (old new after : List Token) (files : List SnapFile) (file : SnapFile) (st : List Symbol) → old ≡ token (first_of old).at (Mark mark.Comma) ∷ new
     → run true (Part (length files) ∷ (file_symbols ++ MoreFiles (length files + 1) ∷ st)) new ≡ run true (file_symbols ++ MoreFiles (length files + 1) ∷ st) new
     → run true (file_symbols ++ MoreFiles (length files + 1) ∷ st) new ≡ run true (MoreFiles (length files + 1) ∷ st) after
     → run true (MoreFiles (length files) ∷ st) old ≡ run true (MoreFiles (length (files ++ file ∷ [])) ∷ st) after
@@ -155,13 +156,13 @@ columns_over [] parts st h = refl
 columns_over (t ∷ ts) parts st h = rw h refl
 
 -- behind a comma a part comes
-pub numbers_on : (old new after : List Token) (row : List Expr) (e : Expr) (st : List Symbol) → old ≡ token (first_place old) (Mark mark.Comma) ∷ new
+pub numbers_on : (old new after : List Token) (row : List Expr) (e : Expr) (st : List Symbol) → old ≡ token (first_of old).at (Mark mark.Comma) ∷ new
     → run true (Part (length row) ∷ AnyNumber ∷ MoreNumbers (length row + 1) ∷ st) new ≡ run true (AnyNumber ∷ MoreNumbers (length row + 1) ∷ st) new
     → run true (AnyNumber ∷ MoreNumbers (length row + 1) ∷ st) new ≡ run true (MoreNumbers (length row + 1) ∷ st) after
     → run true (MoreNumbers (length row) ∷ st) old ≡ run true (MoreNumbers (length (row ++ e ∷ [])) ∷ st) after
 numbers_on old new after row e st comma part number = rw length-append (ap (run true (MoreNumbers (length row) ∷ st)) comma ∙ part ∙ number)
 
-pub columns_on : (old new after : List Token) (cols : List Column) (column : Column) (st : List Symbol) → old ≡ token (first_place old) (Mark mark.Comma) ∷ new
+pub columns_on : (old new after : List Token) (cols : List Column) (column : Column) (st : List Symbol) → old ≡ token (first_of old).at (Mark mark.Comma) ∷ new
     → run true (Part (length cols) ∷ AnyName ∷ symbol.Key word.Int ∷ MoreColumns (length cols + 1) ∷ st) new ≡ run true (AnyName ∷ symbol.Key word.Int ∷ MoreColumns (length cols + 1) ∷ st) new
     → run true (AnyName ∷ symbol.Key word.Int ∷ MoreColumns (length cols + 1) ∷ st) new ≡ run true (MoreColumns (length cols + 1) ∷ st) after
     → run true (MoreColumns (length cols) ∷ st) old ≡ run true (MoreColumns (length (cols ++ column ∷ [])) ∷ st) after
@@ -173,7 +174,7 @@ select_only true end ts at h = refl
 select_only false end ts at h = rw h refl
 
 -- where no other statement begins a SELECT must
-pub stmts_select : (ts : List Token) → begins_with is_end ts ≡ false → begins_with (is_key word.Use) ts ≡ false → begins_with (is_key word.Create) ts ≡ false → begins_with (is_key word.Insert) ts ≡ false
+pub stmts_select : (ts : List Token) → is_over ts ≡ false → begins_with (is_key word.Use) ts ≡ false → begins_with (is_key word.Create) ts ≡ false → begins_with (is_key word.Insert) ts ≡ false
     → begins_with (is_key word.Update) ts ≡ false
     → run true start ts ≡ run true (symbol.Key word.Select ∷ select_rest ++ start) ts
 stmts_select [] a b d e f = refl

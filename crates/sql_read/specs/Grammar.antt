@@ -10,14 +10,14 @@ use Rattle.plain_model.specs.declared.stmt.SnapFile.{SnapFile}
 use Rattle.plain_model.specs.declared.stmt.Stmt.TheVariants.{UseDb, CreateTable, CreateSnap, Insert, Select, Update}
 use Rattle.plain_model.specs.declared.stmt.Items.TheVariants as items
 use Rattle.plain_model.specs.Sound.{are_distinct}
-use Rattle.sql_read.specs.declared.context_word.ContextWord.TheVariants as place
-use Rattle.sql_read.specs.declared.keyword.Keyword.TheVariants as word
-use Rattle.sql_read.specs.declared.token.Mark.TheVariants as mark
-use Rattle.sql_read.specs.declared.token.Token.{Token}
-use Rattle.sql_read.specs.declared.token.TokenKind.{TokenKind}
-use Rattle.sql_read.specs.declared.token.TokenKind.TheVariants.{Key, Named, Number, Text, Mark, End}
-use Rattle.sql_read.specs.Words.{letters_of}
-use Rattle.sql_read.specs.Tokens.{Lexes, kinds}
+use Rattle.sql_lex.specs.declared.context_word.ContextWord.TheVariants as place
+use Rattle.sql_lex.specs.declared.keyword.Keyword.TheVariants as word
+use Rattle.sql_lex.specs.declared.token.Mark.TheVariants as mark
+use Rattle.sql_lex.specs.declared.token.Token.{Token}
+use Rattle.sql_lex.specs.declared.token.TokenKind.{TokenKind}
+use Rattle.sql_lex.specs.declared.token.TokenKind.TheVariants.{Key, Named, Number, Text, Mark, End}
+use Rattle.sql_lex.specs.Words.{letters_of}
+use Rattle.sql_lex.specs.Tokens.{Lexes, kinds}
 
 -- , number
 abbrev pub more_number : ℤ → List TokenKind
@@ -50,7 +50,7 @@ pub record FileText : Type 0 where
 
 -- ( NAME = name , FILENAME = text )
 abbrev pub file_tokens : FileText → List TokenKind
-file_tokens file = Mark mark.Open ∷ Named (letters_of place.Name) ∷ Mark mark.Equals ∷ Named file.logical ∷ Mark mark.Comma ∷ Named (letters_of place.Filename) ∷ Mark mark.Equals ∷ Text file.path ∷ Mark mark.Close ∷ []
+file_tokens file = Mark mark.Open ∷ Named (letters_of place.Name) ∷ Mark mark.Equal ∷ Named file.logical ∷ Mark mark.Comma ∷ Named (letters_of place.Filename) ∷ Mark mark.Equal ∷ Text file.path ∷ Mark mark.Close ∷ []
 
 -- , file
 abbrev pub more_file : FileText → List TokenKind
@@ -82,7 +82,7 @@ pub data IsStmt (limited : Bool) : List TokenKind → Stmt → Type 0 where
       → IsStmt limited (Key word.Insert ∷ Named name ∷ Key word.Values ∷ Mark mark.Open ∷ Number first ∷ (flat_map more_number others ++ Mark mark.Close ∷ []))
       (Insert (record { table = name; cols = []; rows = map (λ n. expr.Number n) (first ∷ others) ∷ [] }))
   -- UPDATE name SET name = number
-  update_rows : (name col : List ℕ) (n : ℤ) → IsStmt limited (Key word.Update ∷ Named name ∷ Key word.Set ∷ Named col ∷ Mark mark.Equals ∷ Number n ∷ [])
+  update_rows : (name col : List ℕ) (n : ℤ) → IsStmt limited (Key word.Update ∷ Named name ∷ Key word.Set ∷ Named col ∷ Mark mark.Equal ∷ Number n ∷ [])
       (Update (record { table = name; sets = record { col = col; to = expr.Number n } ∷ []; filter = None }))
   -- SELECT * FROM name
   select_all : (name : List ℕ) → IsStmt limited (Key word.Select ∷ Mark mark.Star ∷ Key word.From ∷ Named name ∷ [])

@@ -1,14 +1,10 @@
--- What the grammar promises of itself: one cutting, one reading, one place.
+-- What the grammar promises of itself: one reading, one place.
 use Rattle.std.specs.Prelude.{ℕ, ◌≡◌, List, ◌∷◌, ◌++◌}
 use Rattle.plain_model.specs.declared.stmt.Stmt.{Stmt}
-use Rattle.sql_read.specs.declared.token.Token.{Token}
-use Rattle.sql_read.specs.Tokens.{Lexes, kinds}
+use Rattle.sql_lex.specs.declared.token.Token.{Token}
+use Rattle.sql_lex.specs.Tokens.{kinds}
 use Rattle.sql_read.specs.Grammar.{IsBatch}
 use Rattle.sql_read.specs.Place.{IsWrong}
-
--- all bytes are cut into tokens, and in one way
-abbrev pub HasOneCutting : List ℕ → Type 0
-HasOneCutting batch = (ts : List Token) × Lexes 0 batch ts × ((us : List Token) → Lexes 0 batch us → us ≡ ts)
 
 -- a batch has one list of statements
 abbrev pub HasOneReading : List ℕ → Type 0

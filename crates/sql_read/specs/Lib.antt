@@ -1,10 +1,5 @@
-pub mod Words
-pub mod Texts
-pub mod Tokens
-pub mod Cut
 pub mod Grammar
 pub mod Table
 pub mod Place
-pub mod Ahead
 pub mod Steps
 pub mod Laws

@@ -2,13 +2,13 @@
 use Rattle.std.specs.Prelude.{ℕ, ◌≡◌, ◌⊎◌, Bool, true, false, List, [], ◌∷◌, ◌++◌}
 use Rattle.page_base.specs.FileName.{IsFileName, last_part}
 use Rattle.plain_model.specs.declared.stmt.Stmt.{Stmt}
-use Rattle.sql_read.specs.declared.refusal.ParseRefusal.{ParseRefusal}
-use Rattle.sql_read.specs.declared.refusal.ParseRefusal.TheVariants.{Syntax, Memory}
-use Rattle.sql_read.specs.declared.token.Mark.TheVariants as mark
-use Rattle.sql_read.specs.declared.token.Token.{Token}
-use Rattle.sql_read.specs.declared.token.TokenKind.{TokenKind}
-use Rattle.sql_read.specs.declared.token.TokenKind.TheVariants.{Mark, Text}
-use Rattle.sql_read.specs.Tokens.{Lexes, kinds}
+use Rattle.sql_lex.specs.declared.refusal.ParseRefusal.{ParseRefusal}
+use Rattle.sql_lex.specs.declared.refusal.ParseRefusal.TheVariants.{Syntax, Memory}
+use Rattle.sql_lex.specs.declared.token.Mark.TheVariants as mark
+use Rattle.sql_lex.specs.declared.token.Token.{Token}
+use Rattle.sql_lex.specs.declared.token.TokenKind.{TokenKind}
+use Rattle.sql_lex.specs.declared.token.TokenKind.TheVariants.{Mark, Text}
+use Rattle.sql_lex.specs.Tokens.{Lexes, kinds}
 use Rattle.sql_read.specs.Grammar.{AreStmts, IsBatch}
 use Rattle.sql_read.specs.Table.{start, run, Stops}
 

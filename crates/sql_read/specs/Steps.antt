@@ -1,20 +1,21 @@
 -- What one step of reading does with the tokens that are left.
-use Rattle.std.specs.Prelude.{ℕ, ◌≡◌, ◌≤◌, ◌+◌, Bool, true, false, List, [], ◌∷◌, ◌++◌, length, map, flat_map, ℤ, pos, Option, Some, None, Result, Ok, Err}
+use Rattle.std.specs.Prelude.{ℕ, ◌≡◌, ◌≤◌, ◌+◌, Bool, true, false, List, ◌∷◌, ◌++◌, length, map, flat_map, ℤ, pos, Option, Some, None, Result, Ok, Err}
 use Rattle.plain_model.specs.declared.expr.Expr as expr
 use Rattle.plain_model.specs.declared.expr.Expr.{Expr}
 use Rattle.plain_model.specs.declared.stmt.Stmt.{Stmt}
 use Rattle.plain_model.specs.declared.stmt.SnapFile.{SnapFile}
 use Rattle.page_base.specs.declared.column.Column.{Column}
 use Rattle.page_base.specs.FileName.{IsFileName, last_part}
-use Rattle.sql_read.specs.declared.keyword.Keyword.TheVariants as word
-use Rattle.sql_read.specs.declared.refusal.ParseRefusal.{ParseRefusal}
-use Rattle.sql_read.specs.declared.refusal.ParseRefusal.TheVariants.{Syntax, Memory}
-use Rattle.sql_read.specs.declared.token.Token.{Token}
-use Rattle.sql_read.specs.declared.token.TokenKind.{TokenKind}
-use Rattle.sql_read.specs.declared.token.TokenKind.TheVariants.{Key, Named, Number, Text, End}
-use Rattle.sql_read.specs.Tokens.{token}
+use Rattle.sql_lex.specs.declared.keyword.Keyword.TheVariants as word
+use Rattle.sql_lex.specs.declared.refusal.ParseRefusal.{ParseRefusal}
+use Rattle.sql_lex.specs.declared.refusal.ParseRefusal.TheVariants.{Syntax, Memory}
+use Rattle.sql_lex.specs.declared.token.Token.{Token}
+use Rattle.sql_lex.specs.declared.token.TokenKind.{TokenKind}
+use Rattle.sql_lex.specs.declared.token.TokenKind.TheVariants.{Key, Named, Number, Text}
+use Rattle.sql_lex.specs.Tokens.{token}
+use Rattle.sql_lex.specs.Ahead.{first_of}
 use Rattle.sql_read.specs.Grammar.{IsStmt, more_number, more_column, key_column, plain_column, FileText, AreFiles, file_tokens, more_file, file_of}
-use Rattle.sql_read.specs.Table.{Verdict, Stops, is_end, is_path}
+use Rattle.sql_read.specs.Table.{Verdict, Stops, is_path}
 
 -- a refusal names the place where the table stops
 abbrev pub FailsTo : ParseRefusal → Verdict → Type 0
@@ -26,24 +27,13 @@ abbrev pub Passes : {X : Type 0} → Result X ParseRefusal → Verdict → Verdi
 Passes (Ok x) before after = before ≡ after
 Passes (Err e) before after = FailsTo e before
 
--- whether the first token is of some kind
+-- whether the token in front is of some kind
 abbrev pub begins_with : (TokenKind → Bool) → List Token → Bool
-begins_with test [] = false
-begins_with test (t ∷ ts) = test t.kind
-
--- where the first token stands
-abbrev pub first_place : List Token → ℕ
-first_place [] = 0
-first_place (t ∷ ts) = t.at
-
--- whether the end alone is left
-abbrev pub IsEnd : Bool → List Token → Type 0
-IsEnd true ts = ts ≡ token (first_place ts) End ∷ []
-IsEnd false ts = begins_with is_end ts ≡ false
+begins_with test ts = test (first_of ts).kind
 
 -- the token was taken, or another stands there
 abbrev pub Eats : (TokenKind → Bool) → Bool → TokenKind → List Token → List Token → Type 0
-Eats test true kind old new = old ≡ token (first_place old) kind ∷ new
+Eats test true kind old new = old ≡ token (first_of old).at kind ∷ new
 Eats test false kind old new = (new ≡ old) × (begins_with test old ≡ false)
 
 -- a statement was read

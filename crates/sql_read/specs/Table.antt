@@ -1,19 +1,19 @@
 -- What may still come behind a front of a batch, token by token.
-use Rattle.std.specs.Prelude.{ℕ, ◌+◌, ◌==◌, nat_le, Bool, true, false, ◌&&◌, if◌then◌else◌, List, [], ◌∷◌, ◌++◌, Option, Some, None, length, slice_index, not, ◌||◌}
-use Rattle.std.specs.List.{list_all}
+use Rattle.std.specs.Prelude.{ℕ, ◌+◌, nat_le, Bool, true, false, ◌&&◌, if◌then◌else◌, List, [], ◌∷◌, ◌++◌, Option, Some, None, not, ◌||◌}
 use Rattle.std.specs.Str.{bytes_eq}
-use Rattle.page_base.specs.FileName.{is_file_name_byte, last_part}
-use Rattle.sql_read.specs.declared.context_word.ContextWord.{ContextWord}
-use Rattle.sql_read.specs.declared.context_word.ContextWord.TheVariants as place
-use Rattle.sql_read.specs.declared.keyword.Keyword.{Keyword}
-use Rattle.sql_read.specs.declared.keyword.Keyword.TheVariants as word
-use Rattle.sql_read.specs.declared.token.Mark.{Mark}
-use Rattle.sql_read.specs.declared.token.Mark.TheVariants as mark
-use Rattle.sql_read.specs.declared.token.Token.{Token}
-use Rattle.sql_read.specs.declared.token.TokenKind.{TokenKind}
-use Rattle.sql_read.specs.declared.token.TokenKind.TheVariants as kind
-use Rattle.sql_read.specs.Words.{is_same, letters_of}
-use Rattle.sql_read.specs.Tokens.{byte_of}
+use Rattle.page_base.specs.FileName.{last_part}
+use Rattle.sql_lex.specs.declared.context_word.ContextWord.{ContextWord}
+use Rattle.sql_lex.specs.declared.context_word.ContextWord.TheVariants as place
+use Rattle.sql_lex.specs.declared.keyword.Keyword.{Keyword}
+use Rattle.sql_lex.specs.declared.keyword.Keyword.TheVariants as word
+use Rattle.sql_lex.specs.declared.token.Mark.{Mark}
+use Rattle.sql_lex.specs.declared.token.Mark.TheVariants as mark
+use Rattle.sql_lex.specs.declared.token.Token.{Token}
+use Rattle.sql_lex.specs.declared.token.TokenKind.{TokenKind}
+use Rattle.sql_lex.specs.declared.token.TokenKind.TheVariants as kind
+use Rattle.sql_lex.specs.Words.{is_same, is_same_mark, letters_of}
+use Rattle.sql_lex.specs.Tokens.{is_end}
+use Rattle.sql_lex.specs.Texts.{is_file_name}
 
 -- what may come next
 pub data Symbol : Type 0 where
@@ -47,7 +47,7 @@ is_word wanted _ = false
 
 -- whether it is this mark
 abbrev pub is_mark : Mark → TokenKind → Bool
-is_mark wanted (kind.Mark found) = byte_of found == byte_of wanted
+is_mark wanted (kind.Mark found) = is_same_mark found wanted
 is_mark wanted _ = false
 
 -- whether it is a name
@@ -60,19 +60,10 @@ abbrev pub is_number : TokenKind → Bool
 is_number (kind.Number n) = true
 is_number _ = false
 
--- whether these bytes are a name of a file
-abbrev pub is_file_name : List ℕ → Bool
-is_file_name bytes = (nat_le 1 (length bytes) && nat_le (length bytes) 128) && (not (slice_index bytes 0 == 46) && list_all is_file_name_byte bytes)
-
 -- whether it is a text, and ends with a name of a file where this is limited
 abbrev pub is_path : Bool → TokenKind → Bool
 is_path limited (kind.Text text) = not limited || is_file_name (last_part text)
 is_path limited _ = false
-
--- whether it is the end
-abbrev pub is_end : TokenKind → Bool
-is_end kind.End = true
-is_end _ = false
 
 -- behind CREATE TABLE
 abbrev pub table_rest : List Symbol
@@ -80,7 +71,7 @@ table_rest = AnyName ∷ Sign mark.Open ∷ AnyName ∷ Key word.Int ∷ Key wor
 
 -- a file of a snapshot
 abbrev pub file_symbols : List Symbol
-file_symbols = Sign mark.Open ∷ Word place.Name ∷ Sign mark.Equals ∷ AnyName ∷ Sign mark.Comma ∷ Word place.Filename ∷ Sign mark.Equals ∷ AnyPath ∷ Sign mark.Close ∷ []
+file_symbols = Sign mark.Open ∷ Word place.Name ∷ Sign mark.Equal ∷ AnyName ∷ Sign mark.Comma ∷ Word place.Filename ∷ Sign mark.Equal ∷ AnyPath ∷ Sign mark.Close ∷ []
 
 -- behind CREATE DATABASE
 abbrev pub snap_rest : List Symbol
@@ -92,7 +83,7 @@ insert_rest = AnyName ∷ Key word.Values ∷ Sign mark.Open ∷ AnyNumber ∷ M
 
 -- behind UPDATE
 abbrev pub update_rest : List Symbol
-update_rest = AnyName ∷ Key word.Set ∷ AnyName ∷ Sign mark.Equals ∷ AnyNumber ∷ []
+update_rest = AnyName ∷ Key word.Set ∷ AnyName ∷ Sign mark.Equal ∷ AnyNumber ∷ []
 
 -- behind SELECT
 abbrev pub select_rest : List Symbol

@@ -4,9 +4,9 @@ ghost use Rattle.std.specs.Prelude.{◌<◌, length, IfOk, IfErr};
 ghost use Rattle.sql_read.specs.Grammar.{IsBatch};
 ghost use Rattle.sql_read.specs.Place.{IsRefusal};
 
-use crate::ParseRefusal;
 use crate::parser::Parser;
 use plain_model::StmtList;
+use sql_lex::ParseRefusal;
 use std::alloc::Global;
 
 /// The statements of a batch. `Syntax` comes exactly where the batch isn't in the grammar, at the place of the first token

@@ -1,13 +1,8 @@
 //! What the grammar promises of itself, as functions whose contracts say it.
 
 ghost use Rattle.std.specs.Prelude.{ℕ, List};
-ghost use Rattle.sql_read.specs.declared.token.Token.{Token};
-ghost use Rattle.sql_read.specs.Laws.{HasOneCutting, HasOneReading, HasOnePlace};
-
-/// All bytes are cut into tokens, and in one way.
-pub fn bytes_have_one_cutting()
-    ensures { (batch : List ℕ) → HasOneCutting batch }
-{}
+ghost use Rattle.sql_lex.specs.declared.token.Token.{Token};
+ghost use Rattle.sql_read.specs.Laws.{HasOneReading, HasOnePlace};
 
 /// A batch has one list of statements.
 pub fn batches_have_one_reading()

@@ -2,22 +2,12 @@
 #![tactic(auto)]
 
 mod batch;
-mod context_word;
-mod keyword;
 mod law;
-mod lexer;
 mod parser;
-mod quoted;
-mod refusal;
 mod statement;
 #[cfg(test)]
 mod tests;
-mod token;
 
 pub use batch::parse;
-pub use context_word::ContextWord;
-pub use keyword::Keyword;
-pub use law::{batches_have_one_reading, bytes_have_one_cutting, refusals_have_one_place};
-pub use quoted::Quoted;
-pub use refusal::ParseRefusal;
-pub use token::{Mark, Token, TokenKind};
+pub use law::{batches_have_one_reading, refusals_have_one_place};
+pub use sql_lex::ParseRefusal;

@@ -4,20 +4,21 @@ ghost use Rattle.std.specs.Prelude.{◌≡◌, ◌∷◌, ◌++◌, true, false,
 ghost use Rattle.std.specs.List.{list_any};
 ghost use Rattle.std.specs.Str.{bytes_eq};
 ghost use Rattle.plain_model.specs.Sound.{are_distinct};
-ghost use Rattle.sql_read.specs.declared.keyword.Keyword.TheVariants as word;
-ghost use Rattle.sql_read.specs.declared.token.TokenKind.TheVariants as kind;
-ghost use Rattle.sql_read.specs.Tokens.{kinds};
+ghost use Rattle.sql_lex.specs.declared.keyword.Keyword.TheVariants as word;
+ghost use Rattle.sql_lex.specs.declared.token.TokenKind.TheVariants as kind;
+ghost use Rattle.sql_lex.specs.Tokens.{kinds};
 ghost use Rattle.sql_read.specs.Grammar.{without_twins};
-ghost use Rattle.sql_read.specs.Table.{Symbol, Key, AnyName, AnyNumber, MoreNumbers, MoreColumns, MoreFiles, Created, table_rest, file_symbols, snap_rest, insert_rest, update_rest, select_rest, start, run, is_end};
-ghost use Rattle.sql_read.specs.Steps.{Passes, Reads, ReadsNumbers, ReadsColumns, ReadsKeyColumn, ReadsPlainColumn, ReadsFile, ReadsFiles, begins_with};
+ghost use Rattle.sql_read.specs.Table.{Symbol, Key, AnyName, AnyNumber, MoreNumbers, MoreColumns, MoreFiles, Created, table_rest, file_symbols, snap_rest, insert_rest, update_rest, select_rest, start, run};
+ghost use Rattle.sql_lex.specs.Ahead.{is_over};
+ghost use Rattle.sql_read.specs.Steps.{Passes, Reads, ReadsNumbers, ReadsColumns, ReadsKeyColumn, ReadsPlainColumn, ReadsFile, ReadsFiles};
 
 use crate::parser::Parser;
-use crate::{ContextWord, Keyword, Mark, ParseRefusal};
 use page_base::{ColType, Column, Columns, Name};
 use plain_model::{
     ExprList, ExprRows, InsertStmt, Items, Names, OrderList, SelectStmt, SetItem, SetList,
     SnapFile, SnapFiles, Stmt, UpdateStmt,
 };
+use sql_lex::{ContextWord, Keyword, Mark, ParseRefusal};
 use std::alloc::Global;
 
 // Whether one of the columns has the name.
@@ -51,12 +52,10 @@ fn without_twins(alloc: Global, columns: Columns) -> Columns
 }
 
 impl Parser<'_> {
-    ghost use Rattle.sql_read.specs.Ahead.{left};
-
     // name INT PRIMARY KEY
     fn key_column(&mut self) -> Result<Column, ParseRefusal>
-        ensures spelled { IfOk result (λ column. ReadsKeyColumn column (kinds (left self.old)) (kinds (left self.new))) }
-        ensures passes { (st : List Symbol) → Passes result (run true (AnyName ∷ Key word.Int ∷ Key word.Primary ∷ Key word.Key ∷ st) (left self.old)) (run true st (left self.new)) }
+        ensures spelled { IfOk result (λ column. ReadsKeyColumn column (kinds self.old) (kinds self.new)) }
+        ensures passes { (st : List Symbol) → Passes result (run true (AnyName ∷ Key word.Int ∷ Key word.Primary ∷ Key word.Key ∷ st) self.old) (run true st self.new) }
     {
         let name = self.name()?;
         self.key(Keyword::Int)?;
@@ -72,8 +71,8 @@ impl Parser<'_> {
 
     // name INT
     fn plain_column(&mut self) -> Result<Column, ParseRefusal>
-        ensures spelled { IfOk result (λ column. ReadsPlainColumn column (kinds (left self.old)) (kinds (left self.new))) }
-        ensures passes { (st : List Symbol) → Passes result (run true (AnyName ∷ Key word.Int ∷ st) (left self.old)) (run true st (left self.new)) }
+        ensures spelled { IfOk result (λ column. ReadsPlainColumn column (kinds self.old) (kinds self.new)) }
+        ensures passes { (st : List Symbol) → Passes result (run true (AnyName ∷ Key word.Int ∷ st) self.old) (run true st self.new) }
     {
         let name = self.name()?;
         self.key(Keyword::Int)?;
@@ -87,8 +86,8 @@ impl Parser<'_> {
 
     // name INT PRIMARY KEY { , name INT }
     fn columns(&mut self, alloc: Global) -> Result<Columns, ParseRefusal>
-        ensures spelled { IfOk result (λ columns. ReadsColumns columns (kinds (left self.old)) (kinds (left self.new))) }
-        ensures passes { (st : List Symbol) → Passes result (run true (AnyName ∷ Key word.Int ∷ Key word.Primary ∷ Key word.Key ∷ MoreColumns 1 ∷ st) (left self.old)) (run true st (left self.new)) }
+        ensures spelled { IfOk result (λ columns. ReadsColumns columns (kinds self.old) (kinds self.new)) }
+        ensures passes { (st : List Symbol) → Passes result (run true (AnyName ∷ Key word.Int ∷ Key word.Primary ∷ Key word.Key ∷ MoreColumns 1 ∷ st) self.old) (run true st self.new) }
     {
         let mut columns = Columns::new(alloc);
         let first = self.key_column()?;
@@ -103,8 +102,8 @@ impl Parser<'_> {
 
     // number { , number }
     fn numbers(&mut self, alloc: Global) -> Result<ExprList, ParseRefusal>
-        ensures spelled { IfOk result (λ row. ReadsNumbers row (kinds (left self.old)) (kinds (left self.new))) }
-        ensures passes { (st : List Symbol) → Passes result (run true (AnyNumber ∷ MoreNumbers 1 ∷ st) (left self.old)) (run true st (left self.new)) }
+        ensures spelled { IfOk result (λ row. ReadsNumbers row (kinds self.old) (kinds self.new)) }
+        ensures passes { (st : List Symbol) → Passes result (run true (AnyNumber ∷ MoreNumbers 1 ∷ st) self.old) (run true st self.new) }
     {
         let mut row = ExprList::new(alloc);
         let first = self.number()?;
@@ -119,16 +118,16 @@ impl Parser<'_> {
 
     // ( NAME = name , FILENAME = text )
     fn file(&mut self) -> Result<SnapFile, ParseRefusal>
-        ensures spelled { IfOk result (λ file. ReadsFile file (kinds (left self.old)) (kinds (left self.new))) }
-        ensures passes { (st : List Symbol) → Passes result (run true (file_symbols ++ st) (left self.old)) (run true st (left self.new)) }
+        ensures spelled { IfOk result (λ file. ReadsFile file (kinds self.old) (kinds self.new)) }
+        ensures passes { (st : List Symbol) → Passes result (run true (file_symbols ++ st) self.old) (run true st self.new) }
     {
         self.mark(Mark::Open)?;
         self.word(ContextWord::Name)?;
-        self.mark(Mark::Equals)?;
+        self.mark(Mark::Equal)?;
         let logical = self.name()?;
         self.mark(Mark::Comma)?;
         self.word(ContextWord::Filename)?;
-        self.mark(Mark::Equals)?;
+        self.mark(Mark::Equal)?;
         let path = self.path()?;
         self.mark(Mark::Close)?;
         Ok(SnapFile { logical, path })
@@ -136,8 +135,8 @@ impl Parser<'_> {
 
     // file { , file }
     fn files(&mut self, alloc: Global) -> Result<SnapFiles, ParseRefusal>
-        ensures spelled { IfOk result (λ files. ReadsFiles files (kinds (left self.old)) (kinds (left self.new))) }
-        ensures passes { (st : List Symbol) → Passes result (run true (file_symbols ++ MoreFiles 1 ∷ st) (left self.old)) (run true st (left self.new)) }
+        ensures spelled { IfOk result (λ files. ReadsFiles files (kinds self.old) (kinds self.new)) }
+        ensures passes { (st : List Symbol) → Passes result (run true (file_symbols ++ MoreFiles 1 ∷ st) self.old) (run true st self.new) }
     {
         let mut files = SnapFiles::new(alloc);
         let first = self.file()?;
@@ -152,8 +151,8 @@ impl Parser<'_> {
 
     // behind CREATE DATABASE: name ON files AS SNAPSHOT OF name
     fn create_snap(&mut self, alloc: Global) -> Result<Stmt, ParseRefusal>
-        ensures spelled { IfOk result (λ stmt. Reads stmt (kind.Key word.Create ∷ kind.Key word.Database ∷ kinds (left self.old)) (kinds (left self.new))) }
-        ensures passes { (st : List Symbol) → Passes result (run true (snap_rest ++ st) (left self.old)) (run true st (left self.new)) }
+        ensures spelled { IfOk result (λ stmt. Reads stmt (kind.Key word.Create ∷ kind.Key word.Database ∷ kinds self.old) (kinds self.new)) }
+        ensures passes { (st : List Symbol) → Passes result (run true (snap_rest ++ st) self.old) (run true st self.new) }
     {
         let snap = self.name()?;
         self.key(Keyword::On)?;
@@ -167,8 +166,8 @@ impl Parser<'_> {
 
     // behind CREATE TABLE: name ( columns )
     fn create_table(&mut self, alloc: Global) -> Result<Stmt, ParseRefusal>
-        ensures spelled { IfOk result (λ stmt. Reads stmt (kind.Key word.Create ∷ kind.Key word.Table ∷ kinds (left self.old)) (kinds (left self.new))) }
-        ensures passes { (st : List Symbol) → Passes result (run true (table_rest ++ st) (left self.old)) (run true st (left self.new)) }
+        ensures spelled { IfOk result (λ stmt. Reads stmt (kind.Key word.Create ∷ kind.Key word.Table ∷ kinds self.old) (kinds self.new)) }
+        ensures passes { (st : List Symbol) → Passes result (run true (table_rest ++ st) self.old) (run true st self.new) }
     {
         let name = self.name()?;
         self.mark(Mark::Open)?;
@@ -179,8 +178,8 @@ impl Parser<'_> {
 
     // behind CREATE: a snapshot or a table
     fn create(&mut self, alloc: Global) -> Result<Stmt, ParseRefusal>
-        ensures spelled { IfOk result (λ stmt. Reads stmt (kind.Key word.Create ∷ kinds (left self.old)) (kinds (left self.new))) }
-        ensures passes { (st : List Symbol) → Passes result (run true (Created ∷ st) (left self.old)) (run true st (left self.new)) }
+        ensures spelled { IfOk result (λ stmt. Reads stmt (kind.Key word.Create ∷ kinds self.old) (kinds self.new)) }
+        ensures passes { (st : List Symbol) → Passes result (run true (Created ∷ st) self.old) (run true st self.new) }
     {
         if self.eat_key(Keyword::Database) {
             return self.create_snap(alloc);
@@ -191,8 +190,8 @@ impl Parser<'_> {
 
     // behind INSERT: name VALUES ( numbers )
     fn insert(&mut self, alloc: Global) -> Result<Stmt, ParseRefusal>
-        ensures spelled { IfOk result (λ stmt. Reads stmt (kind.Key word.Insert ∷ kinds (left self.old)) (kinds (left self.new))) }
-        ensures passes { (st : List Symbol) → Passes result (run true (insert_rest ++ st) (left self.old)) (run true st (left self.new)) }
+        ensures spelled { IfOk result (λ stmt. Reads stmt (kind.Key word.Insert ∷ kinds self.old) (kinds self.new)) }
+        ensures passes { (st : List Symbol) → Passes result (run true (insert_rest ++ st) self.old) (run true st self.new) }
     {
         let table = self.name()?;
         self.key(Keyword::Values)?;
@@ -207,13 +206,13 @@ impl Parser<'_> {
 
     // behind UPDATE: name SET name = number
     fn update(&mut self, alloc: Global) -> Result<Stmt, ParseRefusal>
-        ensures spelled { IfOk result (λ stmt. Reads stmt (kind.Key word.Update ∷ kinds (left self.old)) (kinds (left self.new))) }
-        ensures passes { (st : List Symbol) → Passes result (run true (update_rest ++ st) (left self.old)) (run true st (left self.new)) }
+        ensures spelled { IfOk result (λ stmt. Reads stmt (kind.Key word.Update ∷ kinds self.old) (kinds self.new)) }
+        ensures passes { (st : List Symbol) → Passes result (run true (update_rest ++ st) self.old) (run true st self.new) }
     {
         let table = self.name()?;
         self.key(Keyword::Set)?;
         let col = self.name()?;
-        self.mark(Mark::Equals)?;
+        self.mark(Mark::Equal)?;
         let to = self.number()?;
         let mut sets = SetList::new(alloc);
         sets.push(SetItem { col, to })?;
@@ -226,8 +225,8 @@ impl Parser<'_> {
 
     // behind SELECT: * FROM name
     fn select(&mut self, alloc: Global) -> Result<Stmt, ParseRefusal>
-        ensures spelled { IfOk result (λ stmt. Reads stmt (kind.Key word.Select ∷ kinds (left self.old)) (kinds (left self.new))) }
-        ensures passes { (st : List Symbol) → Passes result (run true (select_rest ++ st) (left self.old)) (run true st (left self.new)) }
+        ensures spelled { IfOk result (λ stmt. Reads stmt (kind.Key word.Select ∷ kinds self.old) (kinds self.new)) }
+        ensures passes { (st : List Symbol) → Passes result (run true (select_rest ++ st) self.old) (run true st self.new) }
     {
         self.mark(Mark::Star)?;
         self.key(Keyword::From)?;
@@ -242,8 +241,8 @@ impl Parser<'_> {
 
     // behind USE: name
     fn use_database(&mut self) -> Result<Stmt, ParseRefusal>
-        ensures spelled { IfOk result (λ stmt. Reads stmt (kind.Key word.Use ∷ kinds (left self.old)) (kinds (left self.new))) }
-        ensures passes { (st : List Symbol) → Passes result (run true (AnyName ∷ st) (left self.old)) (run true st (left self.new)) }
+        ensures spelled { IfOk result (λ stmt. Reads stmt (kind.Key word.Use ∷ kinds self.old) (kinds self.new)) }
+        ensures passes { (st : List Symbol) → Passes result (run true (AnyName ∷ st) self.old) (run true st self.new) }
     {
         let name = self.name()?;
         Ok(Stmt::UseDb(name))
@@ -251,9 +250,9 @@ impl Parser<'_> {
 
     // Reads a statement, where the batch isn't at its end.
     pub(crate) fn statement(&mut self, alloc: Global) -> Result<Stmt, ParseRefusal>
-        requires { begins_with is_end (left self.old) ≡ false }
-        ensures spelled { IfOk result (λ stmt. Reads stmt (kinds (left self.old)) (kinds (left self.new))) }
-        ensures passes { Passes result (run true start (left self.old)) (run true start (left self.new)) }
+        requires { is_over self.old ≡ false }
+        ensures spelled { IfOk result (λ stmt. Reads stmt (kinds self.old) (kinds self.new)) }
+        ensures passes { Passes result (run true start self.old) (run true start self.new) }
     {
         if self.eat_key(Keyword::Use) {
             return self.use_database();

@@ -25,7 +25,7 @@ fn outcome_of(alloc: Global, batch: &[u8]) -> Outcome {
     }
 }
 
-const BATCHES: [(&str, Outcome); 23] = [
+const BATCHES: [(&str, Outcome); 24] = [
     ("", Outcome::Read(0)),
     (" \t\n \n", Outcome::Read(0)),
     ("USE shop", Outcome::Read(1)),
@@ -39,7 +39,11 @@ const BATCHES: [(&str, Outcome); 23] = [
     ("USE 1shop", Outcome::RefusedAt(4)),
     ("USE _1", Outcome::Read(1)),
     ("INSERT t VALUES (2147483647)", Outcome::Read(1)),
-    ("INSERT t VALUES (2147483648)", Outcome::RefusedAt(17)),
+    ("INSERT t VALUES (9223372036854775807)", Outcome::Read(1)),
+    (
+        "INSERT t VALUES (9223372036854775808)",
+        Outcome::RefusedAt(17),
+    ),
     (
         "INSERT t VALUES (00000000000000000000000000000001)",
         Outcome::Read(1),
@@ -64,7 +68,7 @@ const BATCHES: [(&str, Outcome); 23] = [
 ];
 
 // Snapshots and updates; a text is refused at its opening quote.
-const SNAPSHOTS_AND_UPDATES: [(&str, Outcome); 37] = [
+const SNAPSHOTS_AND_UPDATES: [(&str, Outcome); 41] = [
     (
         "CREATE DATABASE s1 ON (NAME = shop_data, FILENAME = 's1.ss') AS SNAPSHOT OF shop",
         Outcome::Read(1),
@@ -82,7 +86,11 @@ const SNAPSHOTS_AND_UPDATES: [(&str, Outcome); 37] = [
         "UPDATE t SET v=2147483647UPDATE name SET snapshot=0",
         Outcome::Read(2),
     ),
-    ("UPDATE t SET v = 2147483648", Outcome::RefusedAt(17)),
+    ("UPDATE t SET v = 9223372036854775808", Outcome::RefusedAt(17)),
+    ("USE shop -- shop ;", Outcome::Read(1)),
+    ("/* a */ USE /* /* */ */ shop", Outcome::Read(1)),
+    ("USE /* shop", Outcome::RefusedAt(4)),
+    ("USE [shop]", Outcome::RefusedAt(4)),
     ("UPDATE t SET v = -1", Outcome::RefusedAt(17)),
     ("UPDATE t SET v = 1 WHERE", Outcome::RefusedAt(19)),
     ("UPDATE t SET v = 1, w = 2", Outcome::RefusedAt(18)),

@@ -1,9 +1,7 @@
-use Rattle.std.proofs.Common.{[], ◌∷◌, ap, ◌∙◌, append_assoc, append-nil}
-use Rattle.sql_read.specs.Cut.{tokens_from}
-use Rattle.sql_read.specs.Tokens.{kinds}
-use Rattle.sql_read.proofs.CuttingLaws.{cut_lexes}
+use Rattle.std.proofs.Common.{[], ◌∷◌, ◌∙◌, append_assoc, append-nil, sym, refl}
 use Rattle.std.proofs.lemmas.Result.{err_from_is_err_and}
 use Rattle.sql_read.proofs.Refusing.{refused_exit}
+use Rattle.sql_read.proofs.Passing.{over_is}
 use Rattle.sql_read.proofs.Soundness.{sound_stmt}
 use Rattle.sql_read.proofs.batch.parse.Goals as goal
 
@@ -20,12 +18,12 @@ loop-parser-preserved c =
 
 pub returns-clause-ok : goal.returns-clause-ok
 returns-clause-ok c = record {
-  tokens = tokens_from c.args.batch.now 0;
-  lexes = cut_lexes c.args.batch.now;
-  stmts_are = rw (← append-nil c.loop-parser.stmts) (c.loop-parser.invariant.spelled [] (ap kinds c.loop-parser-test.ensures));
+  tokens = c.new-parser.result;
+  lexes = c.new-parser.ensures;
+  stmts_are = rw (← append-nil c.loop-parser.stmts) (c.loop-parser.invariant.spelled [] (over_is _ (sym c.loop-parser-test.ensures.test) (c.loop-parser-test.ensures.last refl)));
 }
 
 pub returns-in_err-stmt-clause-syntax : goal.returns-in_err-stmt-clause-syntax
 returns-in_err-stmt-clause-syntax c =
     let p = err_from_is_err_and c.from_residual.result c.from_residual.ensures.1 in
-    refused_exit c.args.batch.now _ _ _ _ p.1 p.2 c.loop-parser.invariant.passes c.in_err-stmt.ensures.passes
+    refused_exit c.args.batch.now _ _ _ _ _ c.new-parser.ensures p.1 p.2 c.loop-parser.invariant.passes c.in_err-stmt.ensures.passes

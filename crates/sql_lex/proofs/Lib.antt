@@ -1,0 +1,12 @@
+pub mod BoolLemmas
+pub mod RunLemmas
+pub mod TextLemmas
+pub mod CommentLemmas
+pub mod SignLemmas
+pub mod WordLemmas
+pub mod KindLemmas
+pub mod Finding
+pub mod Standing
+pub mod Cutting
+pub mod Writing
+pub mod FileLemmas

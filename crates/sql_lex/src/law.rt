@@ -1,0 +1,9 @@
+//! What the cutting promises of itself, as functions whose contracts say it.
+
+ghost use Rattle.std.specs.Prelude.{ℕ, List};
+ghost use Rattle.sql_lex.specs.Laws.{HasOneCutting};
+
+/// All bytes are cut into tokens, and in one way.
+pub fn bytes_have_one_cutting()
+    ensures { (batch : List ℕ) → HasOneCutting batch }
+{}

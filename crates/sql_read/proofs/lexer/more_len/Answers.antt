@@ -1,5 +1,0 @@
-use Rattle.sql_read.proofs.TextLemmas.{text_within}
-use Rattle.sql_read.proofs.lexer.more_len.Goals as goal
-
-pub returns-then-is_quote-clause-within : goal.returns-then-is_quote-clause-within
-returns-then-is_quote-clause-within c = rw (c.unwrap_or.ensures, c.text_end.ensures) (text_within c.args.bytes.now)

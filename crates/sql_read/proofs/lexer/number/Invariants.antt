@@ -1,9 +1,0 @@
-use Rattle.std.proofs.Common.{◌≡◌, ◌≤◌, drop}
-use Rattle.sql_read.specs.Tokens.{number_behind, number_of}
-use Rattle.sql_read.proofs.lexer.number.Given as goal
-
-abbrev pub invariant-loop-digit : goal.invariant-loop-digit
-invariant-loop-digit l = record {
-  value : number_behind l.number (drop l.digit-index l.digits) ≡ number_of l.digits;
-  small : l.number ≤ 2147483647;
-}

@@ -1,6 +1,0 @@
-use Rattle.std.proofs.Common.{◌≡◌, drop, false}
-use Rattle.sql_read.specs.Texts.{text_end}
-use Rattle.sql_read.proofs.lexer.text_end.Given as goal
-
-abbrev pub invariant-loop-i : goal.invariant-loop-i
-invariant-loop-i l = text_end l.quote l.i (drop l.i l.bytes) ≡ text_end false 0 l.bytes

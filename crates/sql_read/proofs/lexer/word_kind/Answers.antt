@@ -1,6 +1,0 @@
-use Rattle.std.proofs.Common.{refl}
-use Rattle.sql_read.proofs.Lexing.{long_word}
-use Rattle.sql_read.proofs.lexer.word_kind.Goals as goal
-
-pub returns-in-Err : goal.returns-in-Err
-returns-in-Err c = rw (long_word c.args.word.now c.requires.form (λ name. c.in-Err.ensures name)) refl

@@ -1,7 +1,0 @@
-use Rattle.std.proofs.Common.{ap, sym, ◌∙◌}
-use Rattle.sql_read.specs.Texts.{doubled}
-use Rattle.sql_read.proofs.FileLemmas.{path_of}
-use Rattle.sql_read.proofs.quoted.Quoted.file_name.Goals as goal
-
-pub returns : goal.returns
-returns c = rw c.ok.ensures.value (path_of c.args.self.now c.self.inside.bytes.now c.read.result (sym c.self.invariant ∙ ap doubled c.self.view_is) c.read.ensures)
