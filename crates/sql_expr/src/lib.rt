@@ -7,6 +7,8 @@ mod law;
 mod reader;
 mod role;
 mod steps;
+#[cfg(test)]
+mod tests;
 mod tree;
 
 pub use front::{truth, value};
