@@ -21,7 +21,8 @@ use Rattle.sql_expr.specs.Symbols.{Part, part, Symbol, Want, May, Judge, Shut, N
 use Rattle.sql_expr.specs.Machine.{Fault, Action, Step, Stuck, Take, Leave, act, at_leaf, start, start_unary, start_comp, start_not, follow, comparing, Next, Go, Over, Refuse, only_if, same, judged, opened, counted, stepped, carried_out, feed, WrongKind, TooDeep, TooMany}
 use Rattle.sql_expr.specs.Read.{Outcome, Open, Ended, Stopped, go_on, run, no_part, whole, reading, got, read_front, Answers}
 use Rattle.sql_expr.specs.Laws.{IsBehind, HasEnd, IsFront, IsRefused, are_printed}
-use Rattle.sql_expr.proofs.Lists.{place, has, has_some}
+use Rattle.sql_expr.specs.Laws.{place}
+use Rattle.sql_expr.proofs.Lists.{has, has_some}
 use Rattle.sql_expr.proofs.Complete.{is_leaf, leaf_role}
 use Rattle.sql_expr.proofs.Promises.{Kinds, kinds_of, levels_of, leaves_of, PassLeaves, pass_front, printed_pass, no_column_pass, both}
 use Rattle.sql_expr.proofs.LawLemmas.{completely, front_is, refused_is}

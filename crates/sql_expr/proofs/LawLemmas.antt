@@ -15,12 +15,15 @@ use Rattle.sql_expr.specs.Got.{Done, Refused}
 use Rattle.sql_expr.specs.Symbols.{Part, part, Whole, framed, Symbol, Want, Judge}
 use Rattle.sql_expr.specs.Machine.{Fault, CantStand, WrongKind, TooDeep, TooMany, Action, Step, Stuck, Take, Leave, act, Next, Go, Over, Refuse, only_if, same, judged, opened, counted, stepped, carried_out, feed}
 use Rattle.sql_expr.specs.Read.{Outcome, Open, Ended, Stopped, go_on, run, no_part, whole, reading, got, read_value, read_truth}
-use Rattle.sql_expr.specs.Laws.{goes_on, IsBehind, HasEnd, Begins, IsFront, broken, IsPlace, IsRefused}
-use Rattle.sql_expr.proofs.Lists.{place, has, has_some}
+use Rattle.sql_expr.specs.Laws.{goes_on, IsBehind, HasEnd, Begins, IsFront, broken, is_limit, IsPlace, IsRefused}
+use Rattle.sql_expr.specs.Laws.{place}
+use Rattle.sql_expr.proofs.Lists.{has, has_some}
 use Rattle.sql_expr.proofs.Sound.{Ends, IsLooser, run_back}
 use Rattle.sql_expr.proofs.Complete.{bound, binds, reads, judge}
 use Rattle.sql_expr.proofs.Agreement.{Holds, Agrees, AgreesOut, agree_feed, agree_run}
 use Rattle.sql_expr.proofs.Viable.{end_token, completes}
+use Rattle.sql_expr.proofs.Parts.{wrong_part}
+use Rattle.sql_expr.proofs.Limits.{IsGone, Frees, frees_feed}
 
 -- a token that doesn't go on with an expression binds none of its levels
 pub not_bound : (k : Role) → goes_on k ≡ false → binds Ors k ≡ false
@@ -189,21 +192,39 @@ whole_ends names r truth ts out rest (e, us, vs, x, split, (fits, (same, vs_is))
 few_loose : (e : Tree) → IsWithin loose e 1000
 few_loose e = λ k. cc
 
-loose_looser : IsLooser loose strict
-loose_looser = record { kinds = λ k. refl; levels = λ k. refl }
+loose_looser : (q : Rules) → IsLooser loose q
+loose_looser q = record { kinds = λ k. cc; levels = λ k. cc }
 
 strict_looser : IsLooser strict strict
 strict_looser = record { kinds = λ k. refl; levels = λ k. refl }
 
 -- what was read begins an expression, whatever its kinds and limits
-pub front_begins : (names truth : Bool) (front : List Token) (s : List Symbol) (p : Part) (m : ℕ) → reading names strict truth front ≡ Open s p m → Begins names loose truth front
-front_begins names truth front s p m h =
+pub front_begins : (names : Bool) (q : Rules) (truth : Bool) (front : List Token) (s : List Symbol) (p : Part) (m : ℕ) → reading names q truth front ≡ Open s p m → Begins names loose truth front
+front_begins names q truth front s p m h =
     let c = completes names s p in
     let ends : Ends names loose (whole truth) no_part (front ++ (c.more ++ end_token ∷ [])) c.out (end_token ∷ []) =
-    run_back names loose strict loose_looser front (c.more ++ end_token ∷ []) c.out (end_token ∷ []) (whole truth) no_part 1000 (rw h c.ends) in
+    run_back names loose q (loose_looser q) front (c.more ++ end_token ∷ []) c.out (end_token ∷ []) (whole truth) no_part 1000 (rw h c.ends) in
     let w = whole_ends names loose truth (front ++ (c.more ++ end_token ∷ [])) c.out (end_token ∷ []) ends in
     let same : front ++ c.more ≡ w.0 = append_cancel_right (front ++ c.more) w.0 (end_token ∷ []) (append_assoc front c.more (end_token ∷ []) ∙ w.1) in
     record { more = c.more; tree = c.out.tree; whole = record { spelled = rw same w.2; kind = w.3; few = few_loose c.out.tree } }
+
+gone_on : (names truth : Bool) (front : List Token) (t : Token) (next : Next) → IsGone next → reading names loose truth (front ++ t ∷ []) ≡ go_on t [] (λ s p m. Open s p m) next → Begins names loose truth (front ++ t ∷ [])
+gone_on names truth front t (Go s p m) g h = front_begins names loose truth (front ++ t ∷ []) s p m h
+gone_on names truth front t (Over p m) g h = absurd g
+gone_on names truth front t (Refuse why at) g h = absurd g
+
+freed : (why : Fault) (at : ℕ) (next other : Next) → next ≡ Refuse why at → is_limit why ≡ true → Frees next other → IsGone other
+freed TooDeep at next other is k h = rw is at h
+freed TooMany at next other is k h = rw is at h
+freed CantStand at next other is k h = cc
+freed WrongKind at next other is k h = cc
+
+-- a token that a limit refuses could stand but for the limits
+unlimited_begins : (names truth : Bool) (front : List Token) (t : Token) (s : List Symbol) (p : Part) (m : ℕ) (why : Fault) (at : ℕ) → reading names strict truth front ≡ Open s p m → feed names strict s p m t ≡ Refuse why at → is_limit why ≡ true
+    → Begins names loose truth (front ++ t ∷ [])
+unlimited_begins names truth front t s p m why at leads stops limit =
+    gone_on names truth front t (feed names loose s p m t) (freed why at (feed names strict s p m t) (feed names loose s p m t) stops limit (frees_feed names s p m t))
+    (run_append names loose front (t ∷ []) (whole truth) s no_part p 1000 m (same_run names loose front (whole truth) s no_part p 1000 m leads))
 
 holds_broken : (why : Fault) → Holds (broken why) why
 holds_broken CantStand = tt
@@ -215,7 +236,8 @@ holds_broken TooMany = refl
 abbrev Placed : Token → Next → Type 0
 Placed t (Go s p m) = Unit {0}
 Placed t (Over p m) = Unit {0}
-Placed t (Refuse why at) = IsPlace why at t
+Placed t (Refuse WrongKind at) = Unit {0}
+Placed t (Refuse why at) = at ≡ t.at
 
 placed_kind : (b : Bool) (at : ℕ) (t : Token) (next : Next) → Placed t next → Placed t (only_if b WrongKind at next)
 placed_kind true at t next h = h
@@ -257,8 +279,11 @@ placed_feed names r (s ∷ stack) now spare t =
     (placed_opened r a.opens t (counted r a.counts spare t.at (stepped a.step stack t.at f))
     (placed_counted r a.counts spare t (stepped a.step stack t.at f) (placed_stepped a.step stack t f (λ p. placed_feed names r stack p spare t))))
 
-place_of : (why : Fault) (at : ℕ) (t : Token) (next : Next) → next ≡ Refuse why at → Placed t next → IsPlace why at t
-place_of why at t next is h = rw is at h
+place_of : (names truth : Bool) (why : Fault) (at : ℕ) (front : List Token) (t : Token) (s : List Symbol) (p : Part) (m : ℕ) → reading names strict truth front ≡ Open s p m → feed names strict s p m t ≡ Refuse why at → Placed t (Refuse why at) → IsPlace names why at front t
+place_of names truth WrongKind at front t s p m leads stops h = wrong_part names truth front t s p m at leads stops
+place_of names truth CantStand at front t s p m leads stops h = h
+place_of names truth TooDeep at front t s p m leads stops h = h
+place_of names truth TooMany at front t s p m leads stops h = h
 
 -- what is refused
 pub refused_is : (names truth : Bool) (ts : List Token) (why : Fault) (at : ℕ) → reading names strict truth ts ≡ Stopped why at → IsRefused names truth ts why at
@@ -270,9 +295,10 @@ refused_is names truth ts why at h =
       token = t.token;
       others = t.others;
       split = t.split;
-      before = front_begins names truth t.front t.stack t.now t.spare t.leads;
-      place = place_of why at t.token (feed names strict t.stack t.now t.spare t.token) s.stops (placed_feed names strict t.stack t.now t.spare t.token);
+      before = front_begins names strict truth t.front t.stack t.now t.spare t.leads;
+      place_is = place_of names truth why at t.front t.token t.stack t.now t.spare t.leads s.stops (rw s.stops at (placed_feed names strict t.stack t.now t.spare t.token));
       none = none_begins names (broken why) truth t.front t.token t.stack t.now t.spare why at t.leads s.stops (holds_broken why);
+      unlimited = λ k. unlimited_begins names truth t.front t.token t.stack t.now t.spare why at t.leads s.stops k;
     }
 
 -- the same with so many more spare operators, where it isn't a refusal

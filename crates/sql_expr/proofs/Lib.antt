@@ -6,5 +6,8 @@ pub mod Complete
 pub mod Promises
 pub mod Agreement
 pub mod Viable
+pub mod Limits
+pub mod Parts
 pub mod LawLemmas
 pub mod Answering
+pub mod Batches

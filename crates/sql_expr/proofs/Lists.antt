@@ -5,12 +5,8 @@ use Rattle.sql_lex.specs.declared.token.Token.{Token}
 use Rattle.sql_expr.specs.declared.role.Level.{Level}
 use Rattle.sql_expr.specs.Rules.{Rules}
 use Rattle.sql_expr.specs.Grammar.{IsExpr, one, brackets, minus, negation, onward}
+use Rattle.sql_expr.specs.Laws.{place}
 use Rattle.sql_expr.specs.Symbols.{onto}
-
--- where the tokens begin
-abbrev pub place : List Token → ℕ
-place [] = 0
-place (t ∷ ts) = t.at
 
 abbrev pub has : List Token → Bool
 has [] = false

@@ -14,7 +14,8 @@ use Rattle.sql_expr.specs.Grammar.{role_of, leaf, joins, joins_truths, inner, ne
 use Rattle.sql_expr.specs.Symbols.{Part, part, Frame, Joining, Negating, Denying, framed, Symbol, Want, May, Judge, Shut, Nullness, NullAfterNot, AfterNot, Low, Opens, Entry, onto, null_test, membership}
 use Rattle.sql_expr.specs.Machine.{Fault, Step, Stuck, Take, Leave, Action, at_leaf, start_unary, start_comp, start_not, start, comparing, follow, shut, nullness, null_after_not, after_not, low, opens, entry, act, WrongKind, TooDeep, TooMany, Next, Go, Over, Refuse, only_if, same, judged, opened, counted, stepped, carried_out, feed}
 use Rattle.sql_expr.specs.Read.{Outcome, Open, Ended, Stopped, go_on, run}
-use Rattle.sql_expr.proofs.Lists.{place, place_append, has, has_some, onto_push}
+use Rattle.sql_expr.specs.Laws.{place}
+use Rattle.sql_expr.proofs.Lists.{place_append, has, has_some, onto_push}
 
 -- ( e { , e } )
 pub data IsList (names : Bool) (r : Rules) : ℕ → Entries → List Token → Type 0 where

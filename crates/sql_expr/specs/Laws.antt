@@ -9,7 +9,8 @@ use Rattle.sql_lex.specs.declared.token.TokenKind.TheVariants as kind
 use Rattle.sql_expr.specs.declared.role.Role.{Role}
 use Rattle.sql_expr.specs.declared.role.Role.TheVariants as role
 use Rattle.sql_expr.specs.Rules.{Rules, strict, loose}
-use Rattle.sql_expr.specs.Grammar.{role_of, IsWhole}
+use Rattle.sql_expr.specs.declared.role.Level.{Level}
+use Rattle.sql_expr.specs.Grammar.{role_of, IsExpr, IsWhole}
 use Rattle.sql_expr.specs.Machine.{Fault, CantStand, WrongKind, TooDeep, TooMany}
 
 -- a token with which an expression may go on
@@ -68,18 +69,40 @@ broken WrongKind = record { kinds = true; levels = false; operators = false }
 broken TooDeep = record { kinds = false; levels = true; operators = false }
 broken TooMany = record { kinds = false; levels = false; operators = true }
 
--- the place of a refusal is the token's, or a part's that is of the wrong kind
-abbrev pub IsPlace : Fault → ℕ → Token → Type 0
-IsPlace WrongKind at t = Unit {0}
-IsPlace _ at t = at ≡ t.at
+-- where tokens begin
+abbrev pub place : List Token → ℕ
+place [] = 0
+place (t ∷ ts) = t.at
+
+-- a part that is complete, an expression of some level whatever its kinds and limits, begins at this place and ends the front
+pub record IsPart (names : Bool) (front : List Token) (at : ℕ) : Type 0 where
+  pub before : List Token
+  pub tokens : List Token
+  pub level : Level
+  pub tree : Tree
+  pub split : front ≡ before ++ tokens
+  pub place_is : place tokens ≡ at
+  pub is : IsExpr names loose 0 level tree tokens
+
+-- the place of a refusal is the token's, or, for a wrong kind, that of the part which the token finds complete
+abbrev pub IsPlace : Bool → Fault → ℕ → List Token → Token → Type 0
+IsPlace names WrongKind at front t = IsPart names front at
+IsPlace names _ at front t = at ≡ t.at
+
+-- the fault is against one of the limits
+abbrev pub is_limit : Fault → Bool
+is_limit TooDeep = true
+is_limit TooMany = true
+is_limit _ = false
 
 -- The tokens are refused at this place: an expression begins with the front, whatever its kinds and limits, and none that keeps the
--- broken rule begins with the front and the token behind it.
+-- broken rule begins with the front and the token behind it; where that rule is a limit, one without the limits does.
 pub record IsRefused (names truth : Bool) (ts : List Token) (why : Fault) (at : ℕ) : Type 0 where
   pub front : List Token
   pub token : Token
   pub others : List Token
   pub split : ts ≡ front ++ token ∷ others
   pub before : Begins names loose truth front
-  pub place : IsPlace why at token
+  pub place_is : IsPlace names why at front token
   pub none : Begins names (broken why) truth (front ++ token ∷ []) → ⊥
+  pub unlimited : is_limit why ≡ true → Begins names loose truth (front ++ token ∷ [])

@@ -1,11 +1,12 @@
 //! What reading promises in words of the grammar, as functions whose contracts say it.
 
-ghost use Rattle.std.specs.Prelude.{◌≡◌, ◌<◌, ◌++◌, Bool, ℕ, List, length};
+ghost use Rattle.std.specs.Prelude.{◌≡◌, ◌<◌, ◌++◌, true, Bool, ℕ, List, length};
 ghost use Rattle.plain_model.specs.Tree.{Tree};
 ghost use Rattle.sql_lex.specs.declared.token.Token.{Token};
+ghost use Rattle.sql_lex.specs.Tokens.{Lexes};
 ghost use Rattle.sql_expr.specs.Got.{Done, Refused};
 ghost use Rattle.sql_expr.specs.Grammar.{IsWhole};
-ghost use Rattle.sql_expr.specs.Laws.{HasEnd, IsBehind, IsFront, IsRefused};
+ghost use Rattle.sql_expr.specs.Laws.{HasEnd, are_printed, IsBehind, IsFront, IsRefused};
 ghost use Rattle.sql_expr.specs.Machine.{Fault};
 ghost use Rattle.sql_expr.specs.Read.{read_front};
 ghost use Rattle.sql_expr.specs.Rules.{Rules, strict};
@@ -33,4 +34,9 @@ pub fn what_is_refused_is_in_no_expression()
 /// An expression has a token at least.
 pub fn what_is_read_is_taken()
     ensures { (names truth : Bool) (ts rest : List Token) (e : Tree) → read_front names truth ts ≡ Done e rest → length rest < length ts }
+{}
+
+/// The tokens of a batch have printable texts alone, and an end, as reading asks of them.
+pub fn batches_can_be_read()
+    ensures { (batch : List ℕ) (ts : List Token) → Lexes 0 batch ts → (are_printed ts ≡ true) × HasEnd ts }
 {}
