@@ -1,10 +1,10 @@
 -- Where all rules let tokens pass, fewer rules do too, and the rule that refuses them refuses them alone.
-use Rattle.std.specs.Prelude.{Option, Some, None, not}
-use Rattle.std.proofs.Common.{◌≡◌, ℕ, suc, zero, Bool, true, false, List, [], ◌∷◌, ◌++◌, refl}
+use Rattle.std.specs.Prelude.{Option, Some, None}
+use Rattle.std.proofs.Common.{◌≡◌, ℕ, suc, zero, Bool, true, false, List, [], ◌∷◌, refl}
 use Rattle.sql_lex.specs.declared.token.Token.{Token}
 use Rattle.sql_expr.specs.Rules.{Rules, strict, has_truth}
 use Rattle.sql_expr.specs.Symbols.{Part, Symbol}
-use Rattle.sql_expr.specs.Machine.{Fault, CantStand, WrongKind, TooDeep, TooMany, Step, Stuck, Take, Leave, Action, act, Next, Go, Over, Refuse, only_if, same, judged, opened, counted, stepped, carried_out, feed}
+use Rattle.sql_expr.specs.Machine.{Fault, CantStand, WrongKind, TooDeep, TooMany, Step, Stuck, Take, Leave, act, Next, Go, Over, Refuse, only_if, same, judged, opened, counted, stepped, feed}
 use Rattle.sql_expr.specs.Read.{Outcome, Open, Ended, Stopped, go_on, run}
 
 -- the rule that a fault is against holds

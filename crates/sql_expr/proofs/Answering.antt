@@ -1,6 +1,6 @@
 -- From what the machine leads to, to the laws and to what callers are told.
 use Rattle.std.specs.Prelude.{Option, Some, None, not, ◌&&◌, Result, Ok, Err, IfOk, nat_le}
-use Rattle.std.proofs.Common.{◌≡◌, ℕ, suc, zero, ◌+◌, ◌-◌, ◌≤◌, ◌<◌, Bool, true, false, List, [], ◌∷◌, ◌++◌, length, ap, sym, ◌∙◌, refl, arith}
+use Rattle.std.proofs.Common.{◌≡◌, ℕ, suc, zero, ◌+◌, ◌≤◌, ◌<◌, Bool, true, false, List, [], ◌∷◌, ◌++◌, length, ap, refl, arith}
 use Rattle.std.proofs.lemmas.List.{length-append}
 use Rattle.std.proofs.lemmas.Bool.{le-leb}
 use Rattle.plain_model.specs.declared.expr.Expr.{Expr}
@@ -8,23 +8,20 @@ use Rattle.plain_model.specs.Tree.{Tree, tree_of}
 use Rattle.plain_model.specs.Shape.{is_value, is_truth, is_small, operators, levels, each_leaf, has_printable_text, is_no_column}
 use Rattle.plain_model.specs.Sound.{is_value_expr, is_entry, is_filter}
 use Rattle.sql_lex.specs.declared.refusal.ParseRefusal.{ParseRefusal}
-use Rattle.sql_lex.specs.declared.refusal.ParseRefusal.TheVariants.{Syntax, Memory}
 use Rattle.sql_lex.specs.declared.token.Token.{Token}
-use Rattle.sql_expr.specs.declared.role.Role.{Role}
 use Rattle.sql_expr.specs.declared.role.Role.TheVariants as role
 use Rattle.sql_expr.specs.declared.role.Level.{Level}
 use Rattle.sql_expr.specs.declared.role.Level.TheVariants.{Ors, Ands, Nots, Comps, Sums, Prods, Unaries}
 use Rattle.sql_expr.specs.Rules.{Rules, strict, has_truth}
 use Rattle.sql_expr.specs.Grammar.{role_of, leaf, joins, IsWhole}
 use Rattle.sql_expr.specs.Got.{Got, Done, Refused}
-use Rattle.sql_expr.specs.Symbols.{Part, part, Symbol, Want, May, Judge, Shut, Nullness, NullAfterNot, AfterNot, Low, Opens, Entry}
-use Rattle.sql_expr.specs.Machine.{Fault, Action, Step, Stuck, Take, Leave, act, at_leaf, start, start_unary, start_comp, start_not, follow, comparing, Next, Go, Over, Refuse, only_if, same, judged, opened, counted, stepped, carried_out, feed, WrongKind, TooDeep, TooMany}
+use Rattle.sql_expr.specs.Symbols.{Part, Symbol, Want, May, Judge, Shut, Nullness, NullAfterNot, AfterNot, Low, Opens, Entry}
+use Rattle.sql_expr.specs.Machine.{Fault, Step, Stuck, Take, Leave, act, start, follow, Next, Go, Over, Refuse, only_if, same, judged, opened, counted, stepped, feed, WrongKind, TooDeep, TooMany}
 use Rattle.sql_expr.specs.Read.{Outcome, Open, Ended, Stopped, go_on, run, no_part, whole, reading, got, read_front, Answers}
 use Rattle.sql_expr.specs.Laws.{IsBehind, HasEnd, IsFront, IsRefused, are_printed}
-use Rattle.sql_expr.specs.Laws.{place}
 use Rattle.sql_expr.proofs.Lists.{has, has_some}
 use Rattle.sql_expr.proofs.Complete.{is_leaf, leaf_role}
-use Rattle.sql_expr.proofs.Promises.{Kinds, kinds_of, levels_of, leaves_of, PassLeaves, pass_front, printed_pass, no_column_pass, both}
+use Rattle.sql_expr.proofs.Promises.{kinds_of, levels_of, leaves_of, PassLeaves, pass_front, printed_pass, no_column_pass, both}
 use Rattle.sql_expr.proofs.LawLemmas.{completely, front_is, refused_is}
 
 -- what is read was led to

@@ -15,11 +15,11 @@ use Rattle.sql_expr.specs.declared.role.Level.TheVariants.{Ors, Ands, Nots, Comp
 use Rattle.sql_expr.specs.Rules.{Rules, Fits, HasRoom, IsWithin}
 use Rattle.sql_expr.specs.Grammar.{word_role, kind_role, role_of, null_of, column_of, leaf, joins, joins_truths, compares, joined, inner, negated, IsNotOption, IsExpr, Follows, AreEntries, one, brackets, minus, negation, onward, nothing, chain, compare, is_null, between, within, last, more}
 use Rattle.sql_expr.specs.Symbols.{Part, part, Frame, Joining, Negating, Denying, Bounding, framed, Symbol, Want, May, Judge, Shut, Nullness, NullAfterNot, AfterNot, Low, Opens, Entry, onto, null_test, membership}
-use Rattle.sql_expr.specs.Machine.{Take, Leave, Action, plainly, opening, counting, judging, joining, at_leaf, start_unary, comparing, follow, act, Next, carried_out}
+use Rattle.sql_expr.specs.Machine.{Take, Leave, plainly, opening, counting, judging, joining, at_leaf, start_unary, comparing, follow, act}
 use Rattle.sql_expr.specs.Read.{run}
 use Rattle.sql_expr.specs.Laws.{place}
 use Rattle.sql_expr.proofs.Lists.{place_append, has, has_append, has_some, onto_push}
-use Rattle.sql_expr.proofs.Taking.{MayCount, NotUnaries, is_nots, taken, left, is_not, starts_not, enter}
+use Rattle.sql_expr.proofs.Taking.{NotUnaries, is_nots, taken, left, is_not, starts_not, enter}
 
 -- the token goes on with an operand at the level
 abbrev pub takes : Level → Role → Bool

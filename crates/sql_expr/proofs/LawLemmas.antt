@@ -1,6 +1,6 @@
 -- The laws of reading, from what the machine does.
 use Rattle.std.specs.Prelude.{Option, Some, None, not}
-use Rattle.std.proofs.Common.{◌≡◌, ◌⊎◌, inl, inr, ℕ, suc, zero, ◌+◌, ◌-◌, ◌≤◌, ◌<◌, Bool, true, false, List, [], ◌∷◌, ◌++◌, length, ap, sym, ◌∙◌, refl, append_assoc, append-nil, arith, length-append}
+use Rattle.std.proofs.Common.{◌≡◌, ℕ, suc, zero, ◌+◌, ◌-◌, ◌≤◌, Bool, true, false, List, [], ◌∷◌, ◌++◌, ap, sym, ◌∙◌, refl, append_assoc, append-nil, arith}
 use Rattle.std.proofs.lemmas.List.{append_cancel_right}
 use Rattle.plain_model.specs.Tree.{Tree}
 use Rattle.plain_model.specs.Shape.{operators}
@@ -8,19 +8,17 @@ use Rattle.sql_lex.specs.declared.token.Token.{Token}
 use Rattle.sql_expr.specs.declared.role.Role.{Role}
 use Rattle.sql_expr.specs.declared.role.Role.TheVariants as role
 use Rattle.sql_expr.specs.declared.role.Level.TheVariants.{Ors}
-use Rattle.plain_model.specs.declared.expr.MathOp.TheVariants.{Add, Sub, Mul}
 use Rattle.sql_expr.specs.Rules.{Rules, strict, loose, has_truth, Fits, IsWithin}
 use Rattle.sql_expr.specs.Grammar.{role_of, IsExpr, IsWhole}
-use Rattle.sql_expr.specs.Got.{Done, Refused}
-use Rattle.sql_expr.specs.Symbols.{Part, part, Whole, framed, Symbol, Want, Judge}
-use Rattle.sql_expr.specs.Machine.{Fault, CantStand, WrongKind, TooDeep, TooMany, Action, Step, Stuck, Take, Leave, act, Next, Go, Over, Refuse, only_if, same, judged, opened, counted, stepped, carried_out, feed}
-use Rattle.sql_expr.specs.Read.{Outcome, Open, Ended, Stopped, go_on, run, no_part, whole, reading, got, read_value, read_truth}
-use Rattle.sql_expr.specs.Laws.{goes_on, IsBehind, HasEnd, Begins, IsFront, broken, is_limit, IsPlace, IsRefused}
+use Rattle.sql_expr.specs.Symbols.{Part, part, Whole, Symbol, Judge}
+use Rattle.sql_expr.specs.Machine.{Fault, CantStand, WrongKind, TooDeep, TooMany, Step, Stuck, Take, Leave, act, Next, Go, Over, Refuse, only_if, same, judged, opened, counted, stepped, feed}
+use Rattle.sql_expr.specs.Read.{Outcome, Open, Ended, Stopped, go_on, run, no_part, whole, reading}
+use Rattle.sql_expr.specs.Laws.{goes_on, IsBehind, Begins, IsFront, broken, is_limit, IsPlace, IsRefused}
 use Rattle.sql_expr.specs.Laws.{place}
-use Rattle.sql_expr.proofs.Lists.{has, has_some}
+use Rattle.sql_expr.proofs.Lists.{has}
 use Rattle.sql_expr.proofs.Sound.{Ends, IsLooser, run_back}
 use Rattle.sql_expr.proofs.Complete.{bound, binds, reads, judge}
-use Rattle.sql_expr.proofs.Agreement.{Holds, Agrees, AgreesOut, agree_feed, agree_run}
+use Rattle.sql_expr.proofs.Agreement.{Holds, agree_feed, agree_run}
 use Rattle.sql_expr.proofs.Viable.{end_token, completes}
 use Rattle.sql_expr.proofs.Parts.{wrong_part}
 use Rattle.sql_expr.proofs.Limits.{IsGone, Frees, frees_feed}

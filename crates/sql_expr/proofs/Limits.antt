@@ -1,6 +1,6 @@
 -- A token that a limit refuses could stand but for the limit.
-use Rattle.std.specs.Prelude.{Option, Some, None, not}
-use Rattle.std.proofs.Common.{◌≡◌, ℕ, suc, zero, ◌-◌, Bool, true, false, List, [], ◌∷◌, ◌++◌, ap, sym, ◌∙◌, refl}
+use Rattle.std.specs.Prelude.{Option, Some, None}
+use Rattle.std.proofs.Common.{ℕ, suc, zero, Bool, true, false, List, [], ◌∷◌}
 use Rattle.plain_model.specs.Tree.{Tree}
 use Rattle.plain_model.specs.declared.expr.MathOp.TheVariants.{Sub}
 use Rattle.sql_lex.specs.declared.token.Token.{Token}
@@ -8,10 +8,10 @@ use Rattle.sql_expr.specs.declared.role.Role.{Role}
 use Rattle.sql_expr.specs.declared.role.Role.TheVariants as role
 use Rattle.sql_expr.specs.declared.role.Level.{Level}
 use Rattle.sql_expr.specs.declared.role.Level.TheVariants.{Ors, Ands, Nots, Comps, Sums, Prods, Unaries}
-use Rattle.sql_expr.specs.Rules.{Rules, strict, loose, has_truth}
+use Rattle.sql_expr.specs.Rules.{strict, loose, has_truth}
 use Rattle.sql_expr.specs.Grammar.{role_of, leaf, joins}
 use Rattle.sql_expr.specs.Symbols.{Part, Symbol, Want, May, Judge, Shut, Nullness, NullAfterNot, AfterNot, Low, Opens, Entry}
-use Rattle.sql_expr.specs.Machine.{Fault, CantStand, WrongKind, TooDeep, TooMany, Step, Stuck, Take, Leave, Action, act, at_leaf, start, start_unary, start_comp, start_not, follow, comparing, shut, nullness, null_after_not, after_not, low, opens, entry, Next, Go, Over, Refuse, only_if, same, judged, opened, counted, stepped, carried_out, feed}
+use Rattle.sql_expr.specs.Machine.{WrongKind, TooDeep, TooMany, Step, Stuck, Take, Leave, Action, act, at_leaf, start, start_unary, start_not, follow, comparing, shut, nullness, null_after_not, after_not, low, opens, entry, Next, Go, Over, Refuse, only_if, same, judged, opened, counted, stepped, feed}
 
 abbrev IsTake : Step → Type 0
 IsTake Stuck = ⊥

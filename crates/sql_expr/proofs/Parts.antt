@@ -1,19 +1,18 @@
 -- Which tokens a part was read from that is refused for its kind.
-use Rattle.std.specs.Prelude.{Option, Some, None, not}
-use Rattle.std.proofs.Common.{◌≡◌, ◌⊎◌, inl, inr, ℕ, suc, zero, ◌-◌, Bool, true, false, List, [], ◌∷◌, ◌++◌, ap, sym, ◌∙◌, refl, append_assoc, append-nil, subst}
-use Rattle.plain_model.specs.Tree.{Tree, Neg, Not, IsNull, Between, In, Compare, Entries, Last, More}
+use Rattle.std.specs.Prelude.{Option, Some, None}
+use Rattle.std.proofs.Common.{◌≡◌, ℕ, suc, zero, Bool, true, false, List, [], ◌∷◌, ◌++◌, ap, sym, ◌∙◌, refl, append_assoc, append-nil, subst}
+use Rattle.plain_model.specs.Tree.{Tree, Neg, Not, IsNull, Between, In, Compare, Entries, Last}
 use Rattle.plain_model.specs.declared.expr.MathOp.TheVariants.{Add, Sub, Mul}
-use Rattle.plain_model.specs.declared.expr.CompareOp.{CompareOp}
 use Rattle.sql_lex.specs.declared.token.Token.{Token}
 use Rattle.sql_expr.specs.declared.role.Role.{Role}
 use Rattle.sql_expr.specs.declared.role.Role.TheVariants as role
 use Rattle.sql_expr.specs.declared.role.Level.{Level}
 use Rattle.sql_expr.specs.declared.role.Level.TheVariants.{Ors, Ands, Nots, Comps, Sums, Prods, Unaries}
-use Rattle.sql_expr.specs.Rules.{Rules, strict, loose, has_truth}
+use Rattle.sql_expr.specs.Rules.{strict, loose, has_truth}
 use Rattle.sql_expr.specs.Grammar.{role_of, leaf, joins, joins_truths, joined, inner, negated, IsNotOption, IsExpr, Follows, AreEntries, one, brackets, minus, negation, onward, nothing, chain, compare, is_null, between, within, last, more}
-use Rattle.sql_expr.specs.Symbols.{Part, part, Frame, Whole, Joining, Negating, Denying, Bounding, framed, Symbol, Want, May, Judge, Shut, Nullness, NullAfterNot, AfterNot, Low, Opens, Entry, onto, null_test, membership}
-use Rattle.sql_expr.specs.Machine.{Fault, CantStand, WrongKind, TooDeep, TooMany, Step, Stuck, Take, Leave, Action, act, at_leaf, start, start_unary, start_comp, start_not, follow, comparing, shut, nullness, null_after_not, after_not, low, opens, entry, Next, Go, Over, Refuse, only_if, same, judged, opened, counted, stepped, carried_out, feed}
-use Rattle.sql_expr.specs.Read.{Outcome, Open, Ended, Stopped, go_on, run, no_part, whole, reading}
+use Rattle.sql_expr.specs.Symbols.{Part, part, Frame, Whole, Joining, Negating, Denying, Bounding, framed, Symbol, Want, May, Judge, Shut, Nullness, NullAfterNot, AfterNot, Low, Opens, Entry, onto}
+use Rattle.sql_expr.specs.Machine.{WrongKind, Step, Stuck, Take, Leave, Action, act, at_leaf, start, start_unary, start_not, follow, comparing, shut, nullness, null_after_not, after_not, low, opens, entry, Next, Go, Over, Refuse, only_if, same, judged, opened, counted, stepped, feed}
+use Rattle.sql_expr.specs.Read.{Open, go_on, run, no_part, whole, reading}
 use Rattle.sql_expr.specs.Laws.{place, IsPart}
 use Rattle.sql_expr.proofs.Lists.{place_append, has, has_some, onto_push}
 use Rattle.sql_expr.proofs.Viable.{no_kinds, no_levels}
@@ -311,7 +310,7 @@ entry_acted names role.Close n negative left before t stack now front is h =
     record {
       part_is = live_part h;
       step_is = truth_settled names stack (push front t) below ts (nots ++ u ∷ w ∷ ((es ++ h.tokens) ++ t ∷ [])) left (negated negative (In left.tree (onto before (Last now.tree)))) (rw (h.split, split) (simp append_assoc)) l
-      (within 0 negative left.tree (onto before (Last now.tree)) u w t nots (es ++ h.tokens) m v x is (no_kinds left.tree false) (no_levels 0) (before_entries b (last 0 now.tree h.tokens (rw level at h.is) (no_kinds now.tree false)))) o;
+          (within 0 negative left.tree (onto before (Last now.tree)) u w t nots (es ++ h.tokens) m v x is (no_kinds left.tree false) (no_levels 0) (before_entries b (last 0 now.tree h.tokens (rw level at h.is) (no_kinds now.tree false)))) o;
     }
 entry_acted names _ n negative left before t stack now front is h = record { part_is = live_part h; step_is = tt }
 

@@ -1,8 +1,7 @@
 -- What the rules of the grammar say of a tree: kinds, levels and leaves.
-use Rattle.std.specs.Prelude.{Option, Some, None, ◌&&◌, max}
-use Rattle.std.specs.List.{list_all}
-use Rattle.std.proofs.Common.{◌≡◌, ℕ, ◌+◌, ◌-◌, ◌≤◌, ◌<◌, Bool, true, false, List, [], ◌∷◌, ◌++◌, refl, arith}
-use Rattle.plain_model.specs.Tree.{Tree, Null, Number, Text, Col, Neg, Math, Compare, Not, IsNull, Between, In, Or, And, Entries, Last, More}
+use Rattle.std.specs.Prelude.{Some, ◌&&◌}
+use Rattle.std.proofs.Common.{◌≡◌, ℕ, ◌+◌, ◌≤◌, Bool, true, false, List, [], ◌∷◌, ◌++◌, refl, arith}
+use Rattle.plain_model.specs.Tree.{Tree, Null, Number, Text, Col, Neg, Math, Compare, Not, IsNull, Between, In, Or, And, Entries}
 use Rattle.plain_model.specs.Shape.{is_value, are_values, is_truth, levels, entry_levels, each_leaf, each_entry_leaf, has_printable_text, is_no_column}
 use Rattle.plain_model.specs.declared.expr.MathOp.TheVariants.{Add, Sub, Mul}
 use Rattle.sql_lex.specs.declared.token.Token.{Token}
@@ -11,9 +10,9 @@ use Rattle.sql_lex.specs.declared.token.TokenKind.TheVariants as kind
 use Rattle.sql_expr.specs.declared.role.Role.{Role}
 use Rattle.sql_expr.specs.declared.role.Role.TheVariants as role
 use Rattle.sql_expr.specs.declared.role.Level.{Level}
-use Rattle.sql_expr.specs.declared.role.Level.TheVariants.{Ors, Ands, Nots, Comps, Sums, Prods, Unaries}
+use Rattle.sql_expr.specs.declared.role.Level.TheVariants.{Ors, Ands, Sums, Prods}
 use Rattle.sql_expr.specs.Rules.{Rules, has_truth}
-use Rattle.sql_expr.specs.Grammar.{word_role, role_of, null_of, column_of, leaf, joins, joins_truths, joined, negated, IsNotOption, IsExpr, Follows, AreEntries, one, brackets, minus, negation, onward, nothing, chain, compare, is_null, between, within, last, more}
+use Rattle.sql_expr.specs.Grammar.{word_role, role_of, null_of, column_of, leaf, joins, joins_truths, joined, negated, IsExpr, Follows, AreEntries, one, brackets, minus, negation, onward, nothing, chain, compare, is_null, between, within, last, more}
 use Rattle.sql_expr.specs.Laws.{is_printed, are_printed}
 
 pub both : (a b : Bool) → a ≡ true → b ≡ true → (a && b) ≡ true

@@ -1,6 +1,6 @@
 -- What the machine reads is in the grammar.
 use Rattle.std.specs.Prelude.{Option, Some, None, not}
-use Rattle.std.proofs.Common.{◌≡◌, ℕ, suc, zero, ◌-◌, ◌<◌, Bool, true, false, List, [], ◌∷◌, ◌++◌, ap, sym, ◌∙◌, refl, append_assoc, append-nil, arith}
+use Rattle.std.proofs.Common.{◌≡◌, ℕ, suc, zero, ◌-◌, Bool, true, false, List, [], ◌∷◌, ◌++◌, ap, sym, ◌∙◌, refl, append_assoc, append-nil, arith}
 use Rattle.plain_model.specs.Tree.{Tree, Neg, Not, IsNull, Between, In, Compare, Entries, Last, More}
 use Rattle.plain_model.specs.declared.expr.MathOp.TheVariants.{Sub}
 use Rattle.plain_model.specs.declared.expr.CompareOp.{CompareOp}
@@ -11,11 +11,11 @@ use Rattle.sql_expr.specs.declared.role.Level.{Level}
 use Rattle.sql_expr.specs.declared.role.Level.TheVariants.{Ors, Ands, Nots, Comps, Sums, Prods, Unaries}
 use Rattle.sql_expr.specs.Rules.{Rules, has_truth, Fits, HasRoom}
 use Rattle.sql_expr.specs.Grammar.{role_of, leaf, joins, joins_truths, inner, negated, IsNotOption, IsExpr, Follows, AreEntries, one, brackets, minus, negation, onward, nothing, chain, compare, is_null, between, within, last, more}
-use Rattle.sql_expr.specs.Symbols.{Part, part, Frame, Joining, Negating, Denying, framed, Symbol, Want, May, Judge, Shut, Nullness, NullAfterNot, AfterNot, Low, Opens, Entry, onto, null_test, membership}
+use Rattle.sql_expr.specs.Symbols.{Part, part, Joining, Negating, Denying, framed, Symbol, Want, May, Judge, Shut, Nullness, NullAfterNot, AfterNot, Low, Opens, Entry, onto, null_test, membership}
 use Rattle.sql_expr.specs.Machine.{Fault, Step, Stuck, Take, Leave, Action, at_leaf, start_unary, start_comp, start_not, start, comparing, follow, shut, nullness, null_after_not, after_not, low, opens, entry, act, WrongKind, TooDeep, TooMany, Next, Go, Over, Refuse, only_if, same, judged, opened, counted, stepped, carried_out, feed}
 use Rattle.sql_expr.specs.Read.{Outcome, Open, Ended, Stopped, go_on, run}
 use Rattle.sql_expr.specs.Laws.{place}
-use Rattle.sql_expr.proofs.Lists.{place_append, has, has_some, onto_push}
+use Rattle.sql_expr.proofs.Lists.{place_append, has_some, onto_push}
 
 -- ( e { , e } )
 pub data IsList (names : Bool) (r : Rules) : ℕ → Entries → List Token → Type 0 where
@@ -215,16 +215,19 @@ low_back z _ n negative left now stack is h = absurd h.step
 
 comma_back : (z : Scene) (n : ℕ) (negative : Bool) (left : Part) (before : List Tree) (now : Part) (stack : List Symbol) → role_of z.token ≡ role.Comma → Fits z.rules now.tree false
     → Ends z.names z.rules (Want n Ors ∷ Entry n negative left (before ++ now.tree ∷ []) ∷ stack) now z.behind z.out z.rest → EndsHere z (Entry n negative left before ∷ stack) now
-comma_back z n negative left before now stack is fits (e, us, vs, x, split, (k, (es, us2, u, vs2, m, c, split2, ends))) = (fits, (
-  More now.tree es,
-  z.token ∷ (us ++ us2),
-  u,
-  vs2,
-  more_entries n now.tree es z.token (us ++ us2) is (entries_are us x k m),
-  c,
-  ap (λ (zs : List Token). z.token ∷ zs) (split ∙ ap (λ (zs : List Token). us ++ zs) split2 ∙ sym (append_assoc us us2 (u ∷ vs2))),
-  rw (← onto_push before now.tree es) ends,
-))
+comma_back z n negative left before now stack is fits (e, us, vs, x, split, (k, (es, us2, u, vs2, m, c, split2, ends))) = (
+  fits,
+  (
+    More now.tree es,
+    z.token ∷ (us ++ us2),
+    u,
+    vs2,
+    more_entries n now.tree es z.token (us ++ us2) is (entries_are us x k m),
+    c,
+    ap (λ (zs : List Token). z.token ∷ zs) (split ∙ ap (λ (zs : List Token). us ++ zs) split2 ∙ sym (append_assoc us us2 (u ∷ vs2))),
+    rw (← onto_push before now.tree es) ends,
+  ),
+)
 
 entry_back : (z : Scene) (k : Role) (n : ℕ) (negative : Bool) (left : Part) (before : List Tree) (now : Part) (stack : List Symbol) → role_of z.token ≡ k → EndsAction z (entry k n negative left before now) stack now
     → EndsHere z (Entry n negative left before ∷ stack) now

@@ -1,6 +1,6 @@
 -- Single steps of the machine.
 use Rattle.std.specs.Prelude.{Option, Some, None, not}
-use Rattle.std.proofs.Common.{◌≡◌, ℕ, suc, zero, ◌-◌, ◌<◌, ◌≤◌, Bool, true, false, List, [], ◌∷◌, ◌++◌, ap, sym, ◌∙◌, refl, append_assoc, arith}
+use Rattle.std.proofs.Common.{◌≡◌, ℕ, suc, zero, ◌-◌, ◌<◌, Bool, true, false, List, [], ◌∷◌, ◌++◌, ap, refl, append_assoc, arith}
 use Rattle.plain_model.specs.Tree.{Tree}
 use Rattle.plain_model.specs.declared.expr.MathOp.TheVariants.{Sub}
 use Rattle.sql_lex.specs.declared.token.Token.{Token}
@@ -8,10 +8,10 @@ use Rattle.sql_expr.specs.declared.role.Role.{Role}
 use Rattle.sql_expr.specs.declared.role.Role.TheVariants as role
 use Rattle.sql_expr.specs.declared.role.Level.{Level}
 use Rattle.sql_expr.specs.declared.role.Level.TheVariants.{Ors, Ands, Nots, Comps, Sums, Prods, Unaries}
-use Rattle.sql_expr.specs.Rules.{Rules, has_truth, Fits, HasRoom}
+use Rattle.sql_expr.specs.Rules.{Rules, has_truth}
 use Rattle.sql_expr.specs.Grammar.{role_of, leaf, inner}
 use Rattle.sql_expr.specs.Symbols.{Part, Symbol, Want, May, Judge, Denying}
-use Rattle.sql_expr.specs.Machine.{Step, Take, Leave, Action, at_leaf, start_unary, start_comp, start_not, act, Next, Go, only_if, same, judged, opened, counted, carried_out, feed, WrongKind, TooDeep, TooMany}
+use Rattle.sql_expr.specs.Machine.{Take, Leave, Action, start_unary, start_comp, start_not, act, Next, Go, same, judged, opened, counted, carried_out, feed}
 use Rattle.sql_expr.specs.Read.{go_on, run}
 use Rattle.sql_expr.specs.Steps.{IsJoined}
 use Rattle.sql_expr.proofs.Lists.{has}

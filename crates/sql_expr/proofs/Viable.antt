@@ -1,6 +1,6 @@
 -- Whatever was read begins an expression, kinds and limits left aside: the shortest tokens that complete it.
-use Rattle.std.proofs.Common.{◌≡◌, ℕ, ◌-◌, ◌<◌, Bool, true, false, List, [], ◌∷◌, ◌++◌, refl, append_assoc}
-use Rattle.plain_model.specs.Tree.{Tree, Null, IsNull, Not, Between, In, Last}
+use Rattle.std.proofs.Common.{ℕ, ◌-◌, Bool, true, false, List, [], ◌∷◌, ◌++◌, refl}
+use Rattle.plain_model.specs.Tree.{Tree, Null, Not, Between, Last}
 use Rattle.sql_lex.specs.declared.keyword.Keyword.TheVariants as word
 use Rattle.sql_lex.specs.declared.token.Mark.TheVariants as mark
 use Rattle.sql_lex.specs.declared.token.Token.{Token}
@@ -8,9 +8,9 @@ use Rattle.sql_lex.specs.declared.token.TokenKind.{TokenKind}
 use Rattle.sql_lex.specs.declared.token.TokenKind.TheVariants as kind
 use Rattle.sql_expr.specs.declared.role.Level.{Level}
 use Rattle.sql_expr.specs.declared.role.Level.TheVariants.{Ors, Ands, Nots, Comps, Sums, Prods, Unaries}
-use Rattle.sql_expr.specs.Rules.{Rules, strict, loose, Fits, HasRoom}
+use Rattle.sql_expr.specs.Rules.{loose, Fits, HasRoom}
 use Rattle.sql_expr.specs.Grammar.{inner, negated, IsExpr, one, onward, nothing, last}
-use Rattle.sql_expr.specs.Symbols.{Part, part, Frame, framed, Symbol, Want, May, Judge, Shut, Nullness, NullAfterNot, AfterNot, Low, Opens, Entry, onto, null_test, membership}
+use Rattle.sql_expr.specs.Symbols.{Part, part, framed, Symbol, Want, May, Judge, Shut, Nullness, NullAfterNot, AfterNot, Low, Opens, Entry, onto, null_test, membership}
 use Rattle.sql_expr.proofs.Sound.{Ends, bounded, list, no_more_entries}
 
 abbrev pub mark_token : TokenKind → Token

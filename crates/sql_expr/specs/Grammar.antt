@@ -1,7 +1,6 @@
 -- The grammar of expressions, and the tree of each.
 use Rattle.std.specs.Prelude.{◌≡◌, ℕ, ◌-◌, Bool, true, false, List, [], ◌∷◌, ◌++◌, Option, Some, None}
 use Rattle.plain_model.specs.Tree.{Tree, Entries, Null, Number, Text, Col, Neg, Math, Compare, IsNull, Between, In, Not, And, Or, Last, More}
-use Rattle.plain_model.specs.declared.expr.MathOp.{MathOp}
 use Rattle.plain_model.specs.declared.expr.MathOp.TheVariants.{Add, Sub, Mul}
 use Rattle.plain_model.specs.declared.expr.CompareOp.{CompareOp}
 use Rattle.plain_model.specs.declared.expr.CompareOp.TheVariants.{Eq, Ne, Lt, Le, Gt, Ge}
@@ -16,7 +15,7 @@ use Rattle.sql_expr.specs.declared.role.Role.{Role}
 use Rattle.sql_expr.specs.declared.role.Role.TheVariants as role
 use Rattle.sql_expr.specs.declared.role.Level.{Level}
 use Rattle.sql_expr.specs.declared.role.Level.TheVariants.{Ors, Ands, Nots, Comps, Sums, Prods, Unaries}
-use Rattle.sql_expr.specs.Rules.{Rules, has_truth, Fits, HasRoom, IsWithin}
+use Rattle.sql_expr.specs.Rules.{Rules, Fits, HasRoom, IsWithin}
 
 -- what a reserved word is to an expression
 abbrev pub word_role : Keyword → Role

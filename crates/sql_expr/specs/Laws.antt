@@ -1,5 +1,5 @@
 -- What reading an expression promises, in words of the grammar alone.
-use Rattle.std.specs.Prelude.{◌≡◌, ◌⊎◌, ℕ, Bool, true, false, List, [], ◌∷◌, ◌++◌}
+use Rattle.std.specs.Prelude.{◌≡◌, ℕ, Bool, true, false, List, [], ◌∷◌, ◌++◌}
 use Rattle.std.specs.List.{list_all}
 use Rattle.plain_model.specs.Tree.{Tree}
 use Rattle.plain_model.specs.Shape.{is_printable}

@@ -9,7 +9,7 @@ use Rattle.sql_expr.specs.declared.role.Level.{Level}
 use Rattle.sql_expr.specs.declared.role.Level.TheVariants.{Ors, Ands, Nots, Comps, Sums, Prods, Unaries}
 use Rattle.sql_expr.specs.Rules.{Rules, has_truth}
 use Rattle.sql_expr.specs.Grammar.{role_of, leaf, joins, joins_truths, inner}
-use Rattle.sql_expr.specs.Symbols.{Part, part, Frame, Joining, Negating, Denying, Bounding, framed, Symbol, Want, May, Judge, Shut, Nullness, NullAfterNot, AfterNot, Low, Opens, Entry, onto, null_test, membership}
+use Rattle.sql_expr.specs.Symbols.{Part, part, Joining, Negating, Denying, Bounding, framed, Symbol, Want, May, Judge, Shut, Nullness, NullAfterNot, AfterNot, Low, Opens, Entry, onto, null_test, membership}
 
 -- why reading stops: the token can't stand, a part is of the wrong kind, level 101 opens, or operator 1,001 comes
 pub data Fault : Type 0 where

@@ -9,7 +9,7 @@ use Rattle.sql_lex.specs.Ahead.{first_of, behind_first}
 use Rattle.sql_expr.specs.declared.role.Role.{Role}
 use Rattle.sql_expr.specs.declared.role.Role.TheVariants as role
 use Rattle.sql_expr.specs.declared.role.Level.{Level}
-use Rattle.sql_expr.specs.declared.role.Level.TheVariants.{Ors, Ands, Nots, Comps, Sums, Prods, Unaries}
+use Rattle.sql_expr.specs.declared.role.Level.TheVariants.{Ors, Nots, Comps, Sums, Unaries}
 use Rattle.sql_expr.specs.declared.steps.Beginning.{Beginning}
 use Rattle.sql_expr.specs.declared.steps.Beginning.TheVariants as beginning
 use Rattle.sql_expr.specs.declared.steps.Comparison.{Comparison}
@@ -22,7 +22,7 @@ use Rattle.sql_expr.specs.declared.steps.Start.TheVariants as start
 use Rattle.sql_expr.specs.declared.reader.Listing.{Listing}
 use Rattle.sql_expr.specs.declared.tree.Read.{Read}
 use Rattle.sql_expr.specs.Rules.{strict}
-use Rattle.sql_expr.specs.Grammar.{joins_truths, inner, role_of}
+use Rattle.sql_expr.specs.Grammar.{joins_truths, inner}
 use Rattle.sql_expr.specs.Symbols.{Part, part, Joining, Negating, Denying, Symbol, Want, May, Judge, Shut, Low, Opens, Entry, onto, null_test, membership}
 use Rattle.sql_expr.specs.Read.{Outcome, Stopped, run}
 

@@ -1,5 +1,5 @@
 -- What may still come of an expression that was begun.
-use Rattle.std.specs.Prelude.{ℕ, Bool, true, false, List, [], ◌∷◌}
+use Rattle.std.specs.Prelude.{ℕ, Bool, List, [], ◌∷◌}
 use Rattle.plain_model.specs.Tree.{Tree, Entries, Neg, Not, IsNull, Between, In, More}
 use Rattle.sql_expr.specs.declared.role.Role.{Role}
 use Rattle.sql_expr.specs.declared.role.Level.{Level}

@@ -15,6 +15,7 @@ use std::alloc::Global;
 
 // So many levels may open, and so many operators come.
 const MOST_LEVELS: u32 = 100;
+
 const MOST_OPERATORS: u32 = 1000;
 
 // An expression of a kind.
@@ -41,11 +42,7 @@ fn read(
 
 /// Reads the value in front of tokens, in which columns may stand where `names` is true. `Syntax` is the place where none can go
 /// on; what the tokens are after a refusal isn't said.
-pub fn value(
-    alloc: Global,
-    tokens: &mut Tokens<'_>,
-    names: bool,
-) -> Result<Expr, ParseRefusal>
+pub fn value(alloc: Global, tokens: &mut Tokens<'_>, names: bool) -> Result<Expr, ParseRefusal>
     ensures answers { Answers result (read_value names tokens.old) tokens.new }
     ensures shorter { IfOk result (λ e. length tokens.new + 1 ≤ length tokens.old) }
     ensures sound { are_printed tokens.old ≡ true → IfOk result (λ e. is_value_expr e ≡ true) }

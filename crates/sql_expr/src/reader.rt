@@ -11,12 +11,10 @@ ghost use Rattle.sql_expr.specs.Steps.{IsCons, IsChain, part_of, Passes, listing
 
 use crate::ahead::{joins_truths, role_ahead};
 use crate::steps::{
-    Comparison, Start, and, comparing, enter, entry_end, judge, list_start, not_start, operator, shut,
-    unary_start,
+    Comparison, Start, and, comparing, enter, entry_end, judge, list_start, not_start, operator,
+    shut, unary_start,
 };
-use crate::tree::{
-    Read, between, denied, joined, last, membership, more, null_test, opposite,
-};
+use crate::tree::{Read, between, denied, joined, last, membership, more, null_test, opposite};
 use crate::{Level, Role};
 use plain_model::InRest;
 use sql_lex::{ParseRefusal, Tokens};

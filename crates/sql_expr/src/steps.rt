@@ -207,19 +207,34 @@ pub(crate) fn comparing(tokens: &mut Tokens<'_>, left: &Read) -> Result<Found, P
     let role = role_ahead(tokens);
     if !compares(role) {
         let comparison = Comparison::Nothing;
-        return Ok(Found { comparison, spare: left.spare });
+        return Ok(Found {
+            comparison,
+            spare: left.spare,
+        });
     }
     if has_truth(&left.tree) {
         return Err(ParseRefusal::Syntax { at: left.at });
     }
     let spare = take_operator(tokens, left.spare)?;
     match role {
-        Role::Compare(op) => Ok(Found { comparison: Comparison::Relation(op), spare }),
+        Role::Compare(op) => Ok(Found {
+            comparison: Comparison::Relation(op),
+            spare,
+        }),
         Role::Is => nullness(tokens, left, spare),
         Role::Not => after_not(tokens, left, spare),
-        Role::Between => Ok(Found { comparison: Comparison::Between { negative: false }, spare }),
-        Role::In => Ok(Found { comparison: Comparison::In { negative: false }, spare }),
-        _ => Ok(Found { comparison: Comparison::Nothing, spare }),
+        Role::Between => Ok(Found {
+            comparison: Comparison::Between { negative: false },
+            spare,
+        }),
+        Role::In => Ok(Found {
+            comparison: Comparison::In { negative: false },
+            spare,
+        }),
+        _ => Ok(Found {
+            comparison: Comparison::Nothing,
+            spare,
+        }),
     }
 }
 
@@ -313,10 +328,7 @@ pub(crate) fn list_start(tokens: &mut Tokens<'_>, n: u32) -> Result<u32, ParseRe
 }
 
 // Behind an entry of a list: how many operators may come behind the comma, or none where the list is closed.
-pub(crate) fn entry_end(
-    tokens: &mut Tokens<'_>,
-    entry: &Read,
-) -> Result<Option<u32>, ParseRefusal>
+pub(crate) fn entry_end(tokens: &mut Tokens<'_>, entry: &Read) -> Result<Option<u32>, ParseRefusal>
     ensures passes { (names : Bool) (n : ℕ) (negative : Bool) (left : Part) (before : List Tree) (stack : List Symbol) → Passes result (run names strict (Entry n negative left before ∷ stack) (part_of entry.now) entry.now.spare tokens.old) (listed names n negative left before stack entry.now tokens.new) }
     ensures shorter { length tokens.new ≤ length tokens.old }
     ensures taken { IfOk result (λ more. length tokens.new + 1 ≤ length tokens.old) }

@@ -83,17 +83,52 @@ const TREES: [(Kind, &str, &str, u32); 34] = [
         "Math(Add, Math(Mul, Number(1), Neg(Number(2))), Number(3))",
         6,
     ),
-    (Kind::Value, "-1*2", "Math(Mul, Neg(Number(1)), Number(2))", 4),
+    (
+        Kind::Value,
+        "-1*2",
+        "Math(Mul, Neg(Number(1)), Number(2))",
+        4,
+    ),
     (Kind::Truth, "1 = 2", "Compare(Eq, Number(1), Number(2))", 5),
-    (Kind::Truth, "1 <> 2", "Compare(Ne, Number(1), Number(2))", 6),
-    (Kind::Truth, "1 != 2", "Compare(Ne, Number(1), Number(2))", 6),
+    (
+        Kind::Truth,
+        "1 <> 2",
+        "Compare(Ne, Number(1), Number(2))",
+        6,
+    ),
+    (
+        Kind::Truth,
+        "1 != 2",
+        "Compare(Ne, Number(1), Number(2))",
+        6,
+    ),
     (Kind::Truth, "1 < 2", "Compare(Lt, Number(1), Number(2))", 5),
-    (Kind::Truth, "1 <= 2", "Compare(Le, Number(1), Number(2))", 6),
+    (
+        Kind::Truth,
+        "1 <= 2",
+        "Compare(Le, Number(1), Number(2))",
+        6,
+    ),
     (Kind::Truth, "1 > 2", "Compare(Gt, Number(1), Number(2))", 5),
-    (Kind::Truth, "1 >= 2", "Compare(Ge, Number(1), Number(2))", 6),
-    (Kind::Truth, "1 = 2 = 3", "Compare(Eq, Number(1), Number(2))", 6),
+    (
+        Kind::Truth,
+        "1 >= 2",
+        "Compare(Ge, Number(1), Number(2))",
+        6,
+    ),
+    (
+        Kind::Truth,
+        "1 = 2 = 3",
+        "Compare(Eq, Number(1), Number(2))",
+        6,
+    ),
     (Kind::Truth, "1 is null", "IsNull(Number(1))", 9),
-    (Kind::Truth, "1 IS NOT NULL + 2", "Not(IsNull(Number(1)))", 14),
+    (
+        Kind::Truth,
+        "1 IS NOT NULL + 2",
+        "Not(IsNull(Number(1)))",
+        14,
+    ),
     (
         Kind::Truth,
         "1 BETWEEN 2 AND 3",
@@ -277,7 +312,16 @@ const LIMITS: [(Kind, &str, &str, &str, &str, usize, u32, u32); 8] = [
     (Kind::Value, "1", " + 1", "", "", 1000, 4001, 4002),
     (Kind::Truth, "1 = 1", " OR 1=1", "", "", 499, 3498, 3503),
     (Kind::Truth, "1 IN (1", ",1", ")", "", 999, 2006, 2005),
-    (Kind::Truth, "1 IS NULL", " OR 1 IS NULL", "", "", 499, 6496, 6502),
+    (
+        Kind::Truth,
+        "1 IS NULL",
+        " OR 1 IS NULL",
+        "",
+        "",
+        499,
+        6496,
+        6502,
+    ),
 ];
 
 #[test]
@@ -285,9 +329,17 @@ fn limits(rt: HostRuntime) -> Result<(), Fail> {
     let alloc = rt.alloc();
     for (kind, front, piece, middle, close, times, behind, at) in LIMITS {
         let most = repeated(alloc, front, piece, middle, close, times)?;
-        assert_eq!(rt; end(alloc, kind, &most), Some(behind), "{front}{piece}{middle}");
+        assert_eq!(rt;
+            end(alloc, kind, &most),
+            Some(behind),
+            "{front}{piece}{middle}"
+        );
         let over = repeated(alloc, front, piece, middle, close, times + 1)?;
-        assert_eq!(rt; refusal(alloc, kind, &over), Some(at), "{front}{piece}{middle}");
+        assert_eq!(rt;
+            refusal(alloc, kind, &over),
+            Some(at),
+            "{front}{piece}{middle}"
+        );
     }
     Ok(())
 }

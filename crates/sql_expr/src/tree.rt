@@ -34,18 +34,19 @@ pub(crate) fn column(names: bool, name: Name) -> Option<Expr>
     if names { Some(Expr::Col(name)) } else { None }
 }
 
-pub(crate) fn joined(alloc: Global, operator: Role, left: Expr, right: Expr) -> Result<Expr, NoMemory>
+pub(crate) fn joined(
+    alloc: Global,
+    operator: Role,
+    left: Expr,
+    right: Expr,
+) -> Result<Expr, NoMemory>
     ensures { IfOk result (λ e. tree_of e ≡ joined operator (tree_of left) (tree_of right)) }
 {
     match operator {
         Role::Or => Ok(Expr::Or(Box::new(alloc, left)?, Box::new(alloc, right)?)),
         Role::And => Ok(Expr::And(Box::new(alloc, left)?, Box::new(alloc, right)?)),
         Role::Math(op) => Ok(Expr::Math(op, Box::new(alloc, left)?, Box::new(alloc, right)?)),
-        Role::Compare(op) => Ok(Expr::Compare(
-            op,
-            Box::new(alloc, left)?,
-            Box::new(alloc, right)?,
-        )),
+        Role::Compare(op) => Ok(Expr::Compare(op, Box::new(alloc, left)?, Box::new(alloc, right)?)),
         _ => Ok(Expr::Null),
     }
 }
@@ -118,8 +119,5 @@ pub(crate) fn last(alloc: Global, entry: Expr) -> Result<InRest, NoMemory>
 pub(crate) fn more(alloc: Global, entry: Expr, rest: InRest) -> Result<InRest, NoMemory>
     ensures { IfOk result (λ es. entries_of es ≡ More (tree_of entry) (entries_of rest)) }
 {
-    Ok(InRest::More(
-        Box::new(alloc, entry)?,
-        Box::new(alloc, rest)?,
-    ))
+    Ok(InRest::More(Box::new(alloc, entry)?, Box::new(alloc, rest)?))
 }

@@ -1,5 +1,4 @@
 use Rattle.std.proofs.Common.{true}
-use Rattle.sql_expr.specs.Read.{read_front}
 use Rattle.sql_expr.proofs.Answering.{as_read, answers_shorter, truth_sound}
 use Rattle.sql_expr.proofs.front.truth.Goals as goal
 

@@ -1,5 +1,4 @@
 use Rattle.std.proofs.Common.{false}
-use Rattle.sql_expr.specs.Read.{read_front}
 use Rattle.sql_expr.proofs.Answering.{as_read, answers_shorter, value_sound, entry_sound}
 use Rattle.sql_expr.proofs.front.value.Goals as goal
 

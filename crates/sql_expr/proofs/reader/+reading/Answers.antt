@@ -1,4 +1,4 @@
-use Rattle.std.proofs.Common.{◌∙◌, [], ◌∷◌, ◌++◌, ap, rules}
+use Rattle.std.proofs.Common.{◌∙◌, [], ◌∷◌, ◌++◌, ap}
 use Rattle.plain_model.specs.Tree.{Entries, tree_of, entries_of}
 use Rattle.sql_expr.specs.Rules.{strict}
 use Rattle.sql_expr.specs.Symbols.{Entry, membership}

@@ -1,5 +1,4 @@
-use Rattle.std.proofs.Common.{◌≡◌, true, List, ◌∷◌, ap, refl, ◌∙◌}
-use Rattle.sql_lex.specs.declared.token.Token.{Token}
+use Rattle.std.proofs.Common.{ap}
 use Rattle.sql_expr.specs.Rules.{strict}
 use Rattle.sql_expr.proofs.Lists.{has}
 use Rattle.sql_expr.proofs.Taking.{enter_joined}
