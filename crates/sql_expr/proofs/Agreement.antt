@@ -4,7 +4,8 @@ use Rattle.std.proofs.Common.{◌≡◌, ℕ, suc, zero, Bool, true, false, List
 use Rattle.sql_lex.specs.declared.token.Token.{Token}
 use Rattle.sql_expr.specs.Rules.{Rules, strict, has_truth}
 use Rattle.sql_expr.specs.Symbols.{Part, Symbol}
-use Rattle.sql_expr.specs.Machine.{Fault, CantStand, WrongKind, TooDeep, TooMany, Step, Stuck, Take, Leave, act, Next, Go, Over, Refuse, only_if, same, judged, opened, counted, stepped, feed}
+use Rattle.sql_expr.specs.Machine.{Fault, CantStand, WrongKind, TooDeep, TooMany, Next, Go, Over, Refuse, only_if, same, judged, opened, counted, stepped, feed}
+use Rattle.sql_expr.specs.Table.{Step, Stuck, Take, Leave, act}
 use Rattle.sql_expr.specs.Read.{Outcome, Open, Ended, Stopped, go_on, run}
 
 -- the rule that a fault is against holds

@@ -13,10 +13,12 @@ use Rattle.sql_expr.specs.declared.role.Role.TheVariants as role
 use Rattle.sql_expr.specs.declared.role.Level.{Level}
 use Rattle.sql_expr.specs.declared.role.Level.TheVariants.{Ors, Ands, Nots, Comps, Sums, Prods, Unaries}
 use Rattle.sql_expr.specs.Rules.{Rules, strict, has_truth}
-use Rattle.sql_expr.specs.Grammar.{role_of, leaf, joins, IsWhole}
+use Rattle.sql_expr.specs.Grammar.{joins, IsWhole}
+use Rattle.sql_expr.specs.Roles.{role_of, leaf}
 use Rattle.sql_expr.specs.Got.{Got, Done, Refused}
 use Rattle.sql_expr.specs.Symbols.{Part, Symbol, Want, May, Judge, Shut, Nullness, NullAfterNot, AfterNot, Low, Opens, Entry}
-use Rattle.sql_expr.specs.Machine.{Fault, Step, Stuck, Take, Leave, act, start, follow, Next, Go, Over, Refuse, only_if, same, judged, opened, counted, stepped, feed, WrongKind, TooDeep, TooMany}
+use Rattle.sql_expr.specs.Machine.{Fault, Next, Go, Over, Refuse, only_if, same, judged, opened, counted, stepped, feed, WrongKind, TooDeep, TooMany}
+use Rattle.sql_expr.specs.Table.{Step, Stuck, Take, Leave, act, start, follow}
 use Rattle.sql_expr.specs.Read.{Outcome, Open, Ended, Stopped, go_on, run, no_part, whole, reading, got, read_front, Answers}
 use Rattle.sql_expr.specs.Laws.{IsBehind, HasEnd, IsFront, IsRefused, are_printed}
 use Rattle.sql_expr.proofs.Lists.{has, has_some}

@@ -13,9 +13,10 @@ use Rattle.sql_expr.specs.declared.role.Role.TheVariants as role
 use Rattle.sql_expr.specs.declared.role.Level.{Level}
 use Rattle.sql_expr.specs.declared.role.Level.TheVariants.{Ors, Ands, Nots, Comps, Sums, Prods, Unaries}
 use Rattle.sql_expr.specs.Rules.{Rules, Fits, HasRoom, IsWithin}
-use Rattle.sql_expr.specs.Grammar.{word_role, kind_role, role_of, null_of, column_of, leaf, joins, joins_truths, compares, joined, inner, negated, IsNotOption, IsExpr, Follows, AreEntries, one, brackets, minus, negation, onward, nothing, chain, compare, is_null, between, within, last, more}
+use Rattle.sql_expr.specs.Grammar.{joins, joins_truths, compares, joined, inner, negated, IsNotOption, IsExpr, Follows, AreEntries, one, brackets, minus, negation, onward, nothing, chain, compare, is_null, between, within, last, more}
+use Rattle.sql_expr.specs.Roles.{word_role, kind_role, role_of, null_of, column_of, leaf}
 use Rattle.sql_expr.specs.Symbols.{Part, part, Frame, Joining, Negating, Denying, Bounding, framed, Symbol, Want, May, Judge, Shut, Nullness, NullAfterNot, AfterNot, Low, Opens, Entry, onto, null_test, membership}
-use Rattle.sql_expr.specs.Machine.{Take, Leave, plainly, opening, counting, judging, joining, at_leaf, start_unary, comparing, follow, act}
+use Rattle.sql_expr.specs.Table.{Take, Leave, plainly, opening, counting, judging, joining, at_leaf, start_unary, comparing, follow, act}
 use Rattle.sql_expr.specs.Read.{run}
 use Rattle.sql_expr.specs.Laws.{place}
 use Rattle.sql_expr.proofs.Lists.{place_append, has, has_append, has_some, onto_push}

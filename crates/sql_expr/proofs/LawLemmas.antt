@@ -9,9 +9,11 @@ use Rattle.sql_expr.specs.declared.role.Role.{Role}
 use Rattle.sql_expr.specs.declared.role.Role.TheVariants as role
 use Rattle.sql_expr.specs.declared.role.Level.TheVariants.{Ors}
 use Rattle.sql_expr.specs.Rules.{Rules, strict, loose, has_truth, Fits, IsWithin}
-use Rattle.sql_expr.specs.Grammar.{role_of, IsExpr, IsWhole}
+use Rattle.sql_expr.specs.Grammar.{IsExpr, IsWhole}
+use Rattle.sql_expr.specs.Roles.{role_of}
 use Rattle.sql_expr.specs.Symbols.{Part, part, Whole, Symbol, Judge}
-use Rattle.sql_expr.specs.Machine.{Fault, CantStand, WrongKind, TooDeep, TooMany, Step, Stuck, Take, Leave, act, Next, Go, Over, Refuse, only_if, same, judged, opened, counted, stepped, feed}
+use Rattle.sql_expr.specs.Machine.{Fault, CantStand, WrongKind, TooDeep, TooMany, Next, Go, Over, Refuse, only_if, same, judged, opened, counted, stepped, feed}
+use Rattle.sql_expr.specs.Table.{Step, Stuck, Take, Leave, act}
 use Rattle.sql_expr.specs.Read.{Outcome, Open, Ended, Stopped, go_on, run, no_part, whole, reading}
 use Rattle.sql_expr.specs.Laws.{goes_on, IsBehind, Begins, IsFront, broken, is_limit, IsPlace, IsRefused}
 use Rattle.sql_expr.specs.Laws.{place}

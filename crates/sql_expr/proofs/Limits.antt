@@ -9,9 +9,11 @@ use Rattle.sql_expr.specs.declared.role.Role.TheVariants as role
 use Rattle.sql_expr.specs.declared.role.Level.{Level}
 use Rattle.sql_expr.specs.declared.role.Level.TheVariants.{Ors, Ands, Nots, Comps, Sums, Prods, Unaries}
 use Rattle.sql_expr.specs.Rules.{strict, loose, has_truth}
-use Rattle.sql_expr.specs.Grammar.{role_of, leaf, joins}
+use Rattle.sql_expr.specs.Grammar.{joins}
+use Rattle.sql_expr.specs.Roles.{role_of, leaf}
 use Rattle.sql_expr.specs.Symbols.{Part, Symbol, Want, May, Judge, Shut, Nullness, NullAfterNot, AfterNot, Low, Opens, Entry}
-use Rattle.sql_expr.specs.Machine.{WrongKind, TooDeep, TooMany, Step, Stuck, Take, Leave, Action, act, at_leaf, start, start_unary, start_not, follow, comparing, shut, nullness, null_after_not, after_not, low, opens, entry, Next, Go, Over, Refuse, only_if, same, judged, opened, counted, stepped, feed}
+use Rattle.sql_expr.specs.Machine.{WrongKind, TooDeep, TooMany, Next, Go, Over, Refuse, only_if, same, judged, opened, counted, stepped, feed}
+use Rattle.sql_expr.specs.Table.{Step, Stuck, Take, Leave, Action, act, at_leaf, start, start_unary, start_not, follow, comparing, shut, nullness, null_after_not, after_not, low, opens, entry}
 
 abbrev IsTake : Step → Type 0
 IsTake Stuck = ⊥

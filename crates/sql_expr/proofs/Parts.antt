@@ -9,9 +9,11 @@ use Rattle.sql_expr.specs.declared.role.Role.TheVariants as role
 use Rattle.sql_expr.specs.declared.role.Level.{Level}
 use Rattle.sql_expr.specs.declared.role.Level.TheVariants.{Ors, Ands, Nots, Comps, Sums, Prods, Unaries}
 use Rattle.sql_expr.specs.Rules.{strict, loose, has_truth}
-use Rattle.sql_expr.specs.Grammar.{role_of, leaf, joins, joins_truths, joined, inner, negated, IsNotOption, IsExpr, Follows, AreEntries, one, brackets, minus, negation, onward, nothing, chain, compare, is_null, between, within, last, more}
+use Rattle.sql_expr.specs.Grammar.{joins, joins_truths, joined, inner, negated, IsNotOption, IsExpr, Follows, AreEntries, one, brackets, minus, negation, onward, nothing, chain, compare, is_null, between, within, last, more}
+use Rattle.sql_expr.specs.Roles.{role_of, leaf}
 use Rattle.sql_expr.specs.Symbols.{Part, part, Frame, Whole, Joining, Negating, Denying, Bounding, framed, Symbol, Want, May, Judge, Shut, Nullness, NullAfterNot, AfterNot, Low, Opens, Entry, onto}
-use Rattle.sql_expr.specs.Machine.{WrongKind, Step, Stuck, Take, Leave, Action, act, at_leaf, start, start_unary, start_not, follow, comparing, shut, nullness, null_after_not, after_not, low, opens, entry, Next, Go, Over, Refuse, only_if, same, judged, opened, counted, stepped, feed}
+use Rattle.sql_expr.specs.Machine.{WrongKind, Next, Go, Over, Refuse, only_if, same, judged, opened, counted, stepped, feed}
+use Rattle.sql_expr.specs.Table.{Step, Stuck, Take, Leave, Action, act, at_leaf, start, start_unary, start_not, follow, comparing, shut, nullness, null_after_not, after_not, low, opens, entry}
 use Rattle.sql_expr.specs.Read.{Open, go_on, run, no_part, whole, reading}
 use Rattle.sql_expr.specs.Laws.{place, IsPart}
 use Rattle.sql_expr.proofs.Lists.{place_append, has, has_some, onto_push}

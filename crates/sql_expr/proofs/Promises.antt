@@ -12,7 +12,8 @@ use Rattle.sql_expr.specs.declared.role.Role.TheVariants as role
 use Rattle.sql_expr.specs.declared.role.Level.{Level}
 use Rattle.sql_expr.specs.declared.role.Level.TheVariants.{Ors, Ands, Sums, Prods}
 use Rattle.sql_expr.specs.Rules.{Rules, has_truth}
-use Rattle.sql_expr.specs.Grammar.{word_role, role_of, null_of, column_of, leaf, joins, joins_truths, joined, negated, IsExpr, Follows, AreEntries, one, brackets, minus, negation, onward, nothing, chain, compare, is_null, between, within, last, more}
+use Rattle.sql_expr.specs.Grammar.{joins, joins_truths, joined, negated, IsExpr, Follows, AreEntries, one, brackets, minus, negation, onward, nothing, chain, compare, is_null, between, within, last, more}
+use Rattle.sql_expr.specs.Roles.{word_role, role_of, null_of, column_of, leaf}
 use Rattle.sql_expr.specs.Laws.{is_printed, are_printed}
 
 pub both : (a b : Bool) → a ≡ true → b ≡ true → (a && b) ≡ true

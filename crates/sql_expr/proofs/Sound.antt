@@ -10,9 +10,11 @@ use Rattle.sql_expr.specs.declared.role.Role.TheVariants as role
 use Rattle.sql_expr.specs.declared.role.Level.{Level}
 use Rattle.sql_expr.specs.declared.role.Level.TheVariants.{Ors, Ands, Nots, Comps, Sums, Prods, Unaries}
 use Rattle.sql_expr.specs.Rules.{Rules, has_truth, Fits, HasRoom}
-use Rattle.sql_expr.specs.Grammar.{role_of, leaf, joins, joins_truths, inner, negated, IsNotOption, IsExpr, Follows, AreEntries, one, brackets, minus, negation, onward, nothing, chain, compare, is_null, between, within, last, more}
+use Rattle.sql_expr.specs.Grammar.{joins, joins_truths, inner, negated, IsNotOption, IsExpr, Follows, AreEntries, one, brackets, minus, negation, onward, nothing, chain, compare, is_null, between, within, last, more}
+use Rattle.sql_expr.specs.Roles.{role_of, leaf}
 use Rattle.sql_expr.specs.Symbols.{Part, part, Joining, Negating, Denying, framed, Symbol, Want, May, Judge, Shut, Nullness, NullAfterNot, AfterNot, Low, Opens, Entry, onto, null_test, membership}
-use Rattle.sql_expr.specs.Machine.{Fault, Step, Stuck, Take, Leave, Action, at_leaf, start_unary, start_comp, start_not, start, comparing, follow, shut, nullness, null_after_not, after_not, low, opens, entry, act, WrongKind, TooDeep, TooMany, Next, Go, Over, Refuse, only_if, same, judged, opened, counted, stepped, carried_out, feed}
+use Rattle.sql_expr.specs.Machine.{Fault, WrongKind, TooDeep, TooMany, Next, Go, Over, Refuse, only_if, same, judged, opened, counted, stepped, carried_out, feed}
+use Rattle.sql_expr.specs.Table.{Step, Stuck, Take, Leave, Action, at_leaf, start_unary, start_comp, start_not, start, comparing, follow, shut, nullness, null_after_not, after_not, low, opens, entry, act}
 use Rattle.sql_expr.specs.Read.{Outcome, Open, Ended, Stopped, go_on, run}
 use Rattle.sql_expr.specs.Laws.{place}
 use Rattle.sql_expr.proofs.Lists.{place_append, has_some, onto_push}

@@ -9,9 +9,11 @@ use Rattle.sql_expr.specs.declared.role.Role.TheVariants as role
 use Rattle.sql_expr.specs.declared.role.Level.{Level}
 use Rattle.sql_expr.specs.declared.role.Level.TheVariants.{Ors, Ands, Nots, Comps, Sums, Prods, Unaries}
 use Rattle.sql_expr.specs.Rules.{Rules, has_truth}
-use Rattle.sql_expr.specs.Grammar.{role_of, leaf, inner}
+use Rattle.sql_expr.specs.Grammar.{inner}
+use Rattle.sql_expr.specs.Roles.{role_of, leaf}
 use Rattle.sql_expr.specs.Symbols.{Part, Symbol, Want, May, Judge, Denying}
-use Rattle.sql_expr.specs.Machine.{Take, Leave, Action, start_unary, start_comp, start_not, act, Next, Go, same, judged, opened, counted, carried_out, feed}
+use Rattle.sql_expr.specs.Machine.{Next, Go, same, judged, opened, counted, carried_out, feed}
+use Rattle.sql_expr.specs.Table.{Take, Leave, Action, start_unary, start_comp, start_not, act}
 use Rattle.sql_expr.specs.Read.{go_on, run}
 use Rattle.sql_expr.specs.Steps.{IsJoined}
 use Rattle.sql_expr.proofs.Lists.{has}

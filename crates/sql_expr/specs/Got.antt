@@ -2,6 +2,7 @@
 use Rattle.std.specs.Prelude.{ℕ, List}
 use Rattle.sql_lex.specs.declared.token.Token.{Token}
 
+-- a value and the tokens behind it, or a place
 pub data Got (A : Type 0) : Type 0 where
   Done : (value : A) (rest : List Token) → Got A
   Refused : (at : ℕ) → Got A

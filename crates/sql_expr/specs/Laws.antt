@@ -10,7 +10,8 @@ use Rattle.sql_expr.specs.declared.role.Role.{Role}
 use Rattle.sql_expr.specs.declared.role.Role.TheVariants as role
 use Rattle.sql_expr.specs.Rules.{Rules, strict, loose}
 use Rattle.sql_expr.specs.declared.role.Level.{Level}
-use Rattle.sql_expr.specs.Grammar.{role_of, IsExpr, IsWhole}
+use Rattle.sql_expr.specs.Grammar.{IsExpr, IsWhole}
+use Rattle.sql_expr.specs.Roles.{role_of}
 use Rattle.sql_expr.specs.Machine.{Fault, CantStand, WrongKind, TooDeep, TooMany}
 
 -- a token with which an expression may go on
@@ -43,6 +44,7 @@ abbrev pub is_printed : TokenKind → Bool
 is_printed (kind.Text text) = list_all is_printable text
 is_printed _ = true
 
+-- so have the texts of tokens
 abbrev pub are_printed : List Token → Bool
 are_printed ts = list_all (λ t. is_printed t.kind) ts
 

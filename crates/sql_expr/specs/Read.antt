@@ -17,15 +17,18 @@ pub data Outcome : Type 0 where
   Ended : (now : Part) (spare : ℕ) (rest : List Token) → Outcome
   Stopped : (why : Fault) (at : ℕ) → Outcome
 
+-- where the tokens behind one lead, after what it does
 abbrev pub go_on : Token → List Token → (List Symbol → Part → ℕ → Outcome) → Next → Outcome
 go_on t ts more (Go stack now spare) = more stack now spare
 go_on t ts more (Over now spare) = Ended now spare (t ∷ ts)
 go_on t ts more (Refuse why at) = Stopped why at
 
+-- where tokens lead from some symbols
 abbrev pub run : Bool → Rules → List Symbol → Part → ℕ → List Token → Outcome
 run names r stack now spare [] = Open stack now spare
 run names r stack now spare (t ∷ ts) = go_on t ts (λ s p m. run names r s p m ts) (feed names r stack now spare t)
 
+-- nothing was read yet
 abbrev pub no_part : Part
 no_part = part Null 0
 
@@ -37,6 +40,7 @@ whole truth = Want 100 Ors ∷ Judge truth Whole ∷ []
 abbrev pub reading : Bool → Rules → Bool → List Token → Outcome
 reading names r truth ts = run names r (whole truth) no_part 1000 ts
 
+-- what was read in the end
 abbrev pub got : Outcome → Got Tree
 got (Open stack now spare) = Refused 0
 got (Ended now spare rest) = Done now.tree rest

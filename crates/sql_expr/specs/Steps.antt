@@ -50,6 +50,7 @@ abbrev pub refusal : Outcome → Option ℕ
 refusal (Stopped why at) = Some at
 refusal _ = None
 
+-- an answer is the refusal of an outcome; want of memory alone is free
 abbrev pub FailsTo : ParseRefusal → Outcome → Type 0
 FailsTo (Syntax at) before = refusal before ≡ Some at
 FailsTo Memory before = Unit {0}
@@ -77,6 +78,7 @@ found names n stack left rest spare (comparison.Null negative) = run names stric
 found names n stack left rest spare (comparison.Between negative) = run names strict (Want n Sums ∷ Low n negative left ∷ stack) left spare rest
 found names n stack left rest spare (comparison.In negative) = run names strict (Opens n negative left ∷ stack) left spare rest
 
+-- the same, with how many operators may come behind them
 abbrev pub compared : Bool → ℕ → List Symbol → Part → List Token → Found → Outcome
 compared names n stack left rest f = found names n stack left rest f.spare f.comparison
 

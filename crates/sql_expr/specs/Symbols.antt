@@ -10,6 +10,7 @@ pub record Part : Type 0 where
   pub tree : Tree
   pub at : ℕ
 
+-- a tree that begins at a place
 abbrev pub part : Tree → ℕ → Part
 part e at = record { tree = e; at = at }
 
@@ -32,6 +33,7 @@ framed (Negating at) now = part (Neg now.tree) at
 framed (Denying at) now = part (Not now.tree) at
 framed (Bounding negative left lower) now = part (negated negative (Between left.tree lower now.tree)) left.at
 
+-- what may come next, or must
 pub data Symbol : Type 0 where
   -- an expression of the level must come, under which so many further levels may open
   Want : (n : ℕ) (l : Level) → Symbol
@@ -58,9 +60,10 @@ abbrev pub onto : List Tree → Entries → Entries
 onto [] es = es
 onto (e ∷ before) es = More e (onto before es)
 
--- an IS NULL, and an IN, with its left side
+-- an IS NULL with its left side
 abbrev pub null_test : Bool → Part → Part
 null_test negative left = part (negated negative (IsNull left.tree)) left.at
 
+-- an IN with its left side and its list
 abbrev pub membership : Bool → Part → Entries → Part
 membership negative left es = part (negated negative (In left.tree es)) left.at

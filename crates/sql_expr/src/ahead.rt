@@ -4,7 +4,8 @@ ghost use Rattle.std.specs.Prelude.{◌≡◌, ◌∷◌, ◌-◌, true, IfOk, o
 ghost use Rattle.plain_model.specs.Tree.{tree_of};
 ghost use Rattle.sql_lex.specs.declared.refusal.ParseRefusal.TheVariants.{Syntax};
 ghost use Rattle.sql_lex.specs.Ahead.{first_of, behind_first};
-ghost use Rattle.sql_expr.specs.Grammar.{word_role, mark_role, kind_role, role_of, leaf, joins, joins_truths, compares};
+ghost use Rattle.sql_expr.specs.Grammar.{joins, joins_truths, compares};
+ghost use Rattle.sql_expr.specs.Roles.{word_role, mark_role, kind_role, role_of, leaf};
 ghost use Rattle.sql_expr.specs.Rules.{has_truth};
 ghost use Rattle.sql_expr.specs.Steps.{IsCons, Uses, is_part};
 

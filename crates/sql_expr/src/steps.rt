@@ -4,7 +4,8 @@ ghost use Rattle.std.specs.Prelude.{◌≡◌, ◌∷◌, ◌≢◌, ◌≤◌, 
 ghost use Rattle.plain_model.specs.Tree.{Tree, tree_of};
 ghost use Rattle.sql_lex.specs.Ahead.{first_of};
 ghost use Rattle.sql_expr.specs.declared.role.Level.TheVariants as levels;
-ghost use Rattle.sql_expr.specs.Grammar.{role_of, inner};
+ghost use Rattle.sql_expr.specs.Grammar.{inner};
+ghost use Rattle.sql_expr.specs.Roles.{role_of};
 ghost use Rattle.sql_expr.specs.Rules.{strict};
 ghost use Rattle.sql_expr.specs.Symbols.{Part, part, Frame, framed, Symbol, Want, May, Judge, Shut, Nullness, NullAfterNot, AfterNot, Low, Opens, Entry, Bounding, null_test};
 ghost use Rattle.sql_expr.specs.Read.{run};

@@ -2,7 +2,8 @@
 
 ghost use Rattle.std.specs.Prelude.{◌≡◌, IfOk, option_map};
 ghost use Rattle.plain_model.specs.Tree.{tree_of, entries_of, Neg, Not, IsNull, Between, In, Last, More};
-ghost use Rattle.sql_expr.specs.Grammar.{joined, negated, null_of, column_of};
+ghost use Rattle.sql_expr.specs.Grammar.{joined, negated};
+ghost use Rattle.sql_expr.specs.Roles.{null_of, column_of};
 
 use crate::Role;
 use page_base::{Name, NoMemory};
