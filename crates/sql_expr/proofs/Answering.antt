@@ -2,6 +2,7 @@
 use Rattle.std.specs.Prelude.{Option, Some, None, not, ◌&&◌, Result, Ok, Err, IfOk, nat_le}
 use Rattle.std.proofs.Common.{◌≡◌, ℕ, suc, zero, ◌+◌, ◌≤◌, ◌<◌, Bool, true, false, List, [], ◌∷◌, ◌++◌, length, ap, refl, arith}
 use Rattle.std.proofs.lemmas.List.{length-append}
+use Rattle.std.proofs.lemmas.List.Folds.{list_all-append}
 use Rattle.std.proofs.lemmas.Bool.{le-leb}
 use Rattle.plain_model.specs.declared.expr.Expr.{Expr}
 use Rattle.plain_model.specs.Tree.{Tree, tree_of}
@@ -20,10 +21,10 @@ use Rattle.sql_expr.specs.Symbols.{Part, Symbol, Want, May, Judge, Shut, Nullnes
 use Rattle.sql_expr.specs.Machine.{Fault, Next, Go, Over, Refuse, only_if, same, judged, opened, counted, stepped, feed, WrongKind, TooDeep, TooMany}
 use Rattle.sql_expr.specs.Table.{Step, Stuck, Take, Leave, act, start, follow}
 use Rattle.sql_expr.specs.Read.{Outcome, Open, Ended, Stopped, go_on, run, no_part, whole, reading, got, read_front, Answers}
-use Rattle.sql_expr.specs.Laws.{IsBehind, HasEnd, IsFront, IsRefused, are_printed}
+use Rattle.sql_expr.specs.Laws.{IsBehind, HasEnd, IsFront, IsRefused, is_printed, are_printed}
 use Rattle.sql_expr.proofs.Lists.{has, has_some}
 use Rattle.sql_expr.proofs.Complete.{is_leaf, leaf_role}
-use Rattle.sql_expr.proofs.Promises.{kinds_of, levels_of, leaves_of, PassLeaves, pass_front, printed_pass, no_column_pass, both}
+use Rattle.sql_expr.proofs.Promises.{kinds_of, levels_of, leaves_of, PassLeaves, pass_front, printed_pass, no_column_pass, and_right, both}
 use Rattle.sql_expr.proofs.LawLemmas.{completely, front_is, refused_is}
 
 -- what is read was led to
@@ -195,3 +196,7 @@ truth_sound ts left (Err e) h printed = tt
 pub as_read : (names truth : Bool) (ts left : List Token) (r : Result Expr ParseRefusal) → Answers r (got (reading names strict truth ts)) left → Answers r (read_front names truth ts) left
 unfolding read_front
 as_read names truth ts left r h = h
+
+-- the tokens behind what was read have printable texts too
+pub printed_rest : {names truth : Bool} {ts rest : List Token} {e : Tree} → IsFront names truth ts e rest → are_printed ts ≡ true → are_printed rest ≡ true
+printed_rest {rest = rest} f h = and_right (are_printed f.front) (are_printed rest) (sym (list_all-append (λ (t : Token). is_printed t.kind) f.front rest) ∙ (rw f.split at h))

@@ -15,8 +15,7 @@ use Rattle.sql_expr.specs.Symbols.{Part, part, Whole, Symbol, Judge}
 use Rattle.sql_expr.specs.Machine.{Fault, CantStand, WrongKind, TooDeep, TooMany, Next, Go, Over, Refuse, only_if, same, judged, opened, counted, stepped, feed}
 use Rattle.sql_expr.specs.Table.{Step, Stuck, Take, Leave, act}
 use Rattle.sql_expr.specs.Read.{Outcome, Open, Ended, Stopped, go_on, run, no_part, whole, reading}
-use Rattle.sql_expr.specs.Laws.{goes_on, IsBehind, Begins, IsFront, broken, is_limit, IsPlace, IsRefused}
-use Rattle.sql_expr.specs.Laws.{place}
+use Rattle.sql_expr.specs.Laws.{goes_on, IsBehind, Begins, IsFront, broken, is_limit, IsPlace, IsRefused, place}
 use Rattle.sql_expr.proofs.Lists.{has}
 use Rattle.sql_expr.proofs.Sound.{Ends, IsLooser, run_back}
 use Rattle.sql_expr.proofs.Complete.{bound, binds, reads, judge}
