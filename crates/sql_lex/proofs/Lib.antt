@@ -9,4 +9,5 @@ pub mod Finding
 pub mod Standing
 pub mod Cutting
 pub mod Writing
+pub mod Ending
 pub mod FileLemmas

@@ -19,7 +19,7 @@ mod tokens;
 
 pub use context_word::ContextWord;
 pub use keyword::Keyword;
-pub use law::bytes_have_one_cutting;
+pub use law::{bytes_have_one_cutting, tokens_have_one_end};
 pub use quoted::Quoted;
 pub use refusal::ParseRefusal;
 pub use token::{Mark, Token, TokenKind};

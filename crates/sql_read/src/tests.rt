@@ -86,7 +86,10 @@ const SNAPSHOTS_AND_UPDATES: [(&str, Outcome); 41] = [
         "UPDATE t SET v=2147483647UPDATE name SET snapshot=0",
         Outcome::Read(2),
     ),
-    ("UPDATE t SET v = 9223372036854775808", Outcome::RefusedAt(17)),
+    (
+        "UPDATE t SET v = 9223372036854775808",
+        Outcome::RefusedAt(17),
+    ),
     ("USE shop -- shop ;", Outcome::Read(1)),
     ("/* a */ USE /* /* */ */ shop", Outcome::Read(1)),
     ("USE /* shop", Outcome::RefusedAt(4)),
