@@ -207,7 +207,7 @@ front_begins names q truth front s p m h =
     let same : front ++ c.more ≡ w.0 = append_cancel_right (front ++ c.more) w.0 (end_token ∷ []) (append_assoc front c.more (end_token ∷ []) ∙ w.1) in
     record { more = c.more; tree = c.out.tree; whole = record { spelled = rw same w.2; kind = w.3; few = few_loose c.out.tree } }
 
-gone_on : (names truth : Bool) (front : List Token) (t : Token) (next : Next) → IsGone next → reading names loose truth (front ++ t ∷ []) ≡ go_on t [] (λ s p m. Open s p m) next → Begins names loose truth (front ++ t ∷ [])
+pub gone_on : (names truth : Bool) (front : List Token) (t : Token) (next : Next) → IsGone next → reading names loose truth (front ++ t ∷ []) ≡ go_on t [] (λ s p m. Open s p m) next → Begins names loose truth (front ++ t ∷ [])
 gone_on names truth front t (Go s p m) g h = front_begins names loose truth (front ++ t ∷ []) s p m h
 gone_on names truth front t (Over p m) g h = absurd g
 gone_on names truth front t (Refuse why at) g h = absurd g

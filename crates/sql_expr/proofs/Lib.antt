@@ -9,5 +9,6 @@ pub mod Viable
 pub mod Limits
 pub mod Parts
 pub mod LawLemmas
+pub mod Only
 pub mod Answering
 pub mod Batches

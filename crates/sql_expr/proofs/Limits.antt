@@ -15,7 +15,7 @@ use Rattle.sql_expr.specs.Symbols.{Part, Symbol, Want, May, Judge, Shut, Nullnes
 use Rattle.sql_expr.specs.Machine.{WrongKind, TooDeep, TooMany, Next, Go, Over, Refuse, only_if, same, judged, opened, counted, stepped, feed}
 use Rattle.sql_expr.specs.Table.{Step, Stuck, Take, Leave, Action, act, at_leaf, start, start_unary, start_not, follow, comparing, shut, nullness, null_after_not, after_not, low, opens, entry}
 
-abbrev IsTake : Step → Type 0
+abbrev pub IsTake : Step → Type 0
 IsTake Stuck = ⊥
 IsTake (Take symbols now) = Unit {0}
 IsTake (Leave now) = ⊥
@@ -145,7 +145,7 @@ gone_stepped Stuck stack at behind m h = h
 gone_stepped (Take symbols now) stack at behind m h = tt
 gone_stepped (Leave now) stack at behind m h = absurd h
 
-gone_counted : (b : Bool) (step : Step) (stack : List Symbol) (spare at : ℕ) (behind : Part → Next) → IsTake step → IsGone (counted loose b spare at (stepped step stack at behind))
+pub gone_counted : (b : Bool) (step : Step) (stack : List Symbol) (spare at : ℕ) (behind : Part → Next) → IsTake step → IsGone (counted loose b spare at (stepped step stack at behind))
 gone_counted false step stack spare at behind h = gone_stepped step stack at behind spare h
 gone_counted true step stack zero at behind h = gone_stepped step stack at behind 0 h
 gone_counted true step stack (suc m) at behind h = gone_stepped step stack at behind m h

@@ -1,9 +1,8 @@
 -- The grammar of expressions, and the tree of each.
-use Rattle.std.specs.Prelude.{◌≡◌, ℕ, ◌-◌, Bool, true, false, List, [], ◌∷◌, ◌++◌, Option, Some}
+use Rattle.std.specs.Prelude.{◌≡◌, ℕ, ◌-◌, Bool, true, false, List, [], ◌∷◌, ◌++◌, Some}
 use Rattle.plain_model.specs.Tree.{Tree, Entries, Null, Neg, Math, Compare, IsNull, Between, In, Not, And, Or, Last, More}
 use Rattle.plain_model.specs.declared.expr.MathOp.TheVariants.{Add, Sub, Mul}
 use Rattle.plain_model.specs.declared.expr.CompareOp.{CompareOp}
-use Rattle.plain_model.specs.declared.expr.CompareOp.TheVariants.{Ne, Le}
 use Rattle.sql_lex.specs.declared.token.Token.{Token}
 use Rattle.sql_expr.specs.declared.role.Role.{Role}
 use Rattle.sql_expr.specs.declared.role.Role.TheVariants as role

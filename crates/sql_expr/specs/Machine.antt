@@ -1,8 +1,8 @@
 -- What one token does where these symbols may come.
-use Rattle.std.specs.Prelude.{ℕ, suc, zero, ◌-◌, Bool, true, false, not, List, [], ◌∷◌, ◌++◌, Option, Some, None}
+use Rattle.std.specs.Prelude.{ℕ, suc, zero, Bool, true, false, not, List, [], ◌∷◌, ◌++◌, Option, Some, None}
 use Rattle.sql_lex.specs.declared.token.Token.{Token}
 use Rattle.sql_expr.specs.Rules.{Rules, has_truth}
-use Rattle.sql_expr.specs.Symbols.{Part, part, Symbol}
+use Rattle.sql_expr.specs.Symbols.{Part, Symbol}
 use Rattle.sql_expr.specs.Table.{Step, Stuck, Take, Leave, Action, act}
 
 -- why reading stops: the token can't stand, a part is of the wrong kind, level 101 opens, or operator 1,001 comes

@@ -1,6 +1,6 @@
 -- What a token is to an expression.
-use Rattle.std.specs.Prelude.{ℕ, ◌-◌, Bool, true, false, List, Option, Some, None}
-use Rattle.plain_model.specs.Tree.{Tree, Null, Number, Text, Col, Math, Compare, Between, In, Not, And, Or}
+use Rattle.std.specs.Prelude.{ℕ, Bool, true, false, List, Option, Some, None}
+use Rattle.plain_model.specs.Tree.{Tree, Null, Number, Text, Col}
 use Rattle.plain_model.specs.declared.expr.MathOp.TheVariants.{Add, Sub, Mul}
 use Rattle.plain_model.specs.declared.expr.CompareOp.TheVariants.{Eq, Ne, Lt, Le, Gt, Ge}
 use Rattle.sql_lex.specs.declared.keyword.Keyword.{Keyword}

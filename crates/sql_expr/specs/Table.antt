@@ -1,5 +1,5 @@
 -- What a token does to a symbol, rules left aside.
-use Rattle.std.specs.Prelude.{ℕ, ◌-◌, Bool, true, false, not, List, [], ◌∷◌, ◌++◌, Option, Some, None}
+use Rattle.std.specs.Prelude.{ℕ, ◌-◌, Bool, true, false, List, [], ◌∷◌, ◌++◌, Option, Some, None}
 use Rattle.plain_model.specs.Tree.{Tree, Last}
 use Rattle.plain_model.specs.declared.expr.MathOp.TheVariants.{Sub}
 use Rattle.sql_lex.specs.declared.token.Token.{Token}

@@ -16,6 +16,11 @@ pub fn what_is_read_is_in_the_grammar()
     ensures { (names truth : Bool) (ts rest : List Token) (e : Tree) → read_front names truth ts ≡ Done e rest → IsFront names truth ts e rest }
 {}
 
+/// The expression in front is read where no longer one stands there.
+pub fn the_longest_front_is_read()
+    ensures { (names truth : Bool) (ts rest : List Token) (e : Tree) → IsFront names truth ts e rest → read_front names truth ts ≡ Done e rest }
+{}
+
 /// Each expression is read, whatever stands behind it that doesn't go on with one.
 pub fn what_is_in_the_grammar_is_read()
     ensures { (names truth : Bool) (e : Tree) (front rest : List Token) → IsWhole names strict truth e front → IsBehind rest → read_front names truth (front ++ rest) ≡ Done e rest }
