@@ -299,6 +299,21 @@ const KINDS: [Kind; 21] = [
     Kind::Leave,
 ];
 
+const FIRST_PICKS: [Pick; 3] = [
+    Pick {
+        who: 0,
+        until: Until::One,
+    },
+    Pick {
+        who: 1,
+        until: Until::One,
+    },
+    Pick {
+        who: 1,
+        until: Until::Reply,
+    },
+];
+
 fn is_broken(stmt: &Stmt, place: u32) -> bool {
     match stmt {
         Stmt::Broken { at } => *at == place,
@@ -317,27 +332,9 @@ fn a_script_says_its_statements_and_picks(rt: HostRuntime) -> Result<(), Fail> {
     );
     let picks = work.picks.as_slice();
     assert_eq!(rt; picks.len(), 24);
-    assert_eq!(rt;
-        picks.first().copied(),
-        Some(Pick {
-            who: 0,
-            until: Until::One
-        })
-    );
-    assert_eq!(rt;
-        picks.get(1).copied(),
-        Some(Pick {
-            who: 1,
-            until: Until::One
-        })
-    );
-    assert_eq!(rt;
-        picks.get(2).copied(),
-        Some(Pick {
-            who: 1,
-            until: Until::Reply
-        })
-    );
+    for (want, pick) in FIRST_PICKS.iter().zip(picks.iter()) {
+        assert_eq!(rt; pick, want);
+    }
     for (kind, pick) in KINDS.iter().zip(picks.iter().skip(3)) {
         assert_eq!(rt;
             *pick,

@@ -41,42 +41,44 @@ fn a_whole_script_is_told(rt: HostRuntime) -> Result<(), Fail> {
     Ok(())
 }
 
+// A word, a script, and the line that refuses them.
+const REFUSED: [(&[u8], &[u8], &[u8]); 7] = [
+    (b"plya", FIRST, b"refused: usage\n"),
+    (
+        b"play",
+        b":session 2\n:session 2\n",
+        b"refused: script line 1 session\n",
+    ),
+    (
+        b"play",
+        b":session \x801\n",
+        b"refused: script line 1 byte\n",
+    ),
+    (
+        b"play",
+        b"USE shop\n:session 1\n",
+        b"refused: script line 1 before\n",
+    ),
+    (
+        b"play",
+        b"\n:session 1\n:play\n",
+        b"refused: script line 3 directive\n",
+    ),
+    (
+        b"play",
+        b":session 1\nUSE shop\n:schedule\n1 2\n",
+        b"refused: script line 4 pick\n",
+    ),
+    (
+        b"play",
+        b":session 1\nUSE \rshop\n",
+        b"refused: script line 2 byte\n",
+    ),
+];
+
 #[test]
 fn what_is_no_script_is_refused(rt: HostRuntime) -> Result<(), Fail> {
-    let cases = [
-        (b"plya".as_slice(), FIRST, b"refused: usage\n".as_slice()),
-        (
-            b"play",
-            b":session 2\n:session 2\n",
-            b"refused: script line 1 session\n",
-        ),
-        (
-            b"play",
-            b":session \x801\n",
-            b"refused: script line 1 byte\n",
-        ),
-        (
-            b"play",
-            b"USE shop\n:session 1\n",
-            b"refused: script line 1 before\n",
-        ),
-        (
-            b"play",
-            b"\n:session 1\n:play\n",
-            b"refused: script line 3 directive\n",
-        ),
-        (
-            b"play",
-            b":session 1\nUSE shop\n:schedule\n1 2\n",
-            b"refused: script line 4 pick\n",
-        ),
-        (
-            b"play",
-            b":session 1\nUSE \rshop\n",
-            b"refused: script line 2 byte\n",
-        ),
-    ];
-    for (word, script, line) in cases {
+    for (word, script, line) in REFUSED {
         let (status, written) = played(rt.alloc(), word, script)?;
         assert_eq!(rt; status, 2);
         assert_eq!(rt; written.as_slice(), line);

@@ -53,74 +53,75 @@ fn has_tokens(alloc: Global, batch: &[u8], wants: &[(u32, Want)]) -> Result<bool
     Ok(false)
 }
 
+const WORDS_AND_NAMES: [(&str, &[(u32, Want)]); 10] = [
+    ("", &[(0, Want::End)]),
+    (" \t\n", &[(3, Want::End)]),
+    (
+        "SeLeCt sElF_1 FROM1",
+        &[
+            (0, Want::Key(Keyword::Select)),
+            (7, Want::Named("self_1")),
+            (14, Want::Named("from1")),
+            (19, Want::End),
+        ],
+    ),
+    (
+        "_ DBO name",
+        &[
+            (0, Want::Named("_")),
+            (2, Want::Named("dbo")),
+            (6, Want::Named("name")),
+            (10, Want::End),
+        ],
+    ),
+    (
+        "[Select] [a_1][b]",
+        &[
+            (0, Want::Bracketed("select")),
+            (9, Want::Bracketed("a_1")),
+            (14, Want::Bracketed("b")),
+            (17, Want::End),
+        ],
+    ),
+    (
+        "[a b]",
+        &[
+            (0, Want::Bad),
+            (1, Want::Named("a")),
+            (3, Want::Named("b")),
+            (4, Want::Bad),
+            (5, Want::End),
+        ],
+    ),
+    ("[]", &[(0, Want::Bad), (1, Want::Bad), (2, Want::End)]),
+    (
+        "[1a]",
+        &[
+            (0, Want::Bad),
+            (1, Want::Number(1)),
+            (2, Want::Named("a")),
+            (3, Want::Bad),
+            (4, Want::End),
+        ],
+    ),
+    (
+        "[ab",
+        &[(0, Want::Bad), (1, Want::Named("ab")), (3, Want::End)],
+    ),
+    (
+        "a\rb",
+        &[
+            (0, Want::Named("a")),
+            (1, Want::Bad),
+            (2, Want::Named("b")),
+            (3, Want::End),
+        ],
+    ),
+];
+
 #[test]
 fn words_and_names(rt: HostRuntime) -> Result<(), Fail> {
-    let cases: [(&str, &[(u32, Want)]); 10] = [
-        ("", &[(0, Want::End)]),
-        (" \t\n", &[(3, Want::End)]),
-        (
-            "SeLeCt sElF_1 FROM1",
-            &[
-                (0, Want::Key(Keyword::Select)),
-                (7, Want::Named("self_1")),
-                (14, Want::Named("from1")),
-                (19, Want::End),
-            ],
-        ),
-        (
-            "_ DBO name",
-            &[
-                (0, Want::Named("_")),
-                (2, Want::Named("dbo")),
-                (6, Want::Named("name")),
-                (10, Want::End),
-            ],
-        ),
-        (
-            "[Select] [a_1][b]",
-            &[
-                (0, Want::Bracketed("select")),
-                (9, Want::Bracketed("a_1")),
-                (14, Want::Bracketed("b")),
-                (17, Want::End),
-            ],
-        ),
-        (
-            "[a b]",
-            &[
-                (0, Want::Bad),
-                (1, Want::Named("a")),
-                (3, Want::Named("b")),
-                (4, Want::Bad),
-                (5, Want::End),
-            ],
-        ),
-        ("[]", &[(0, Want::Bad), (1, Want::Bad), (2, Want::End)]),
-        (
-            "[1a]",
-            &[
-                (0, Want::Bad),
-                (1, Want::Number(1)),
-                (2, Want::Named("a")),
-                (3, Want::Bad),
-                (4, Want::End),
-            ],
-        ),
-        (
-            "[ab",
-            &[(0, Want::Bad), (1, Want::Named("ab")), (3, Want::End)],
-        ),
-        (
-            "a\rb",
-            &[
-                (0, Want::Named("a")),
-                (1, Want::Bad),
-                (2, Want::Named("b")),
-                (3, Want::End),
-            ],
-        ),
-    ];
-    for (batch, wants) in cases {
+    for (batch, wants) in WORDS_AND_NAMES {
         assert!(rt;
             has_tokens(rt.alloc(), batch.as_bytes(), wants)?,
             "at {batch}"
@@ -128,56 +129,57 @@ fn words_and_names(rt: HostRuntime) -> Result<(), Fail> {
     }
     Ok(())
 }
+
+const NUMBERS_AND_TEXTS: [(&str, &[(u32, Want)]); 9] = [
+    (
+        "9223372036854775807 9223372036854775808",
+        &[
+            (0, Want::Number(9223372036854775807)),
+            (20, Want::Bad),
+            (39, Want::End),
+        ],
+    ),
+    (
+        "0009 99999999999999999999",
+        &[(0, Want::Number(9)), (5, Want::Bad), (25, Want::End)],
+    ),
+    (
+        "12ab",
+        &[
+            (0, Want::Number(12)),
+            (2, Want::Named("ab")),
+            (4, Want::End),
+        ],
+    ),
+    (
+        "'it''s' ''''",
+        &[
+            (0, Want::Text("it's")),
+            (8, Want::Text("'")),
+            (12, Want::End),
+        ],
+    ),
+    ("''", &[(0, Want::Text("")), (2, Want::End)]),
+    ("'a''b", &[(0, Want::Bad), (5, Want::End)]),
+    ("'a\nb'", &[(0, Want::Bad), (5, Want::End)]),
+    (
+        "'~ ' '\x7f'",
+        &[(0, Want::Text("~ ")), (5, Want::Bad), (8, Want::End)],
+    ),
+    (
+        "'a'b'",
+        &[
+            (0, Want::Text("a")),
+            (3, Want::Named("b")),
+            (4, Want::Bad),
+            (5, Want::End),
+        ],
+    ),
+];
 
 #[test]
 fn numbers_and_texts(rt: HostRuntime) -> Result<(), Fail> {
-    let cases: [(&str, &[(u32, Want)]); 9] = [
-        (
-            "9223372036854775807 9223372036854775808",
-            &[
-                (0, Want::Number(9223372036854775807)),
-                (20, Want::Bad),
-                (39, Want::End),
-            ],
-        ),
-        (
-            "0009 99999999999999999999",
-            &[(0, Want::Number(9)), (5, Want::Bad), (25, Want::End)],
-        ),
-        (
-            "12ab",
-            &[
-                (0, Want::Number(12)),
-                (2, Want::Named("ab")),
-                (4, Want::End),
-            ],
-        ),
-        (
-            "'it''s' ''''",
-            &[
-                (0, Want::Text("it's")),
-                (8, Want::Text("'")),
-                (12, Want::End),
-            ],
-        ),
-        ("''", &[(0, Want::Text("")), (2, Want::End)]),
-        ("'a''b", &[(0, Want::Bad), (5, Want::End)]),
-        ("'a\nb'", &[(0, Want::Bad), (5, Want::End)]),
-        (
-            "'~ ' '\x7f'",
-            &[(0, Want::Text("~ ")), (5, Want::Bad), (8, Want::End)],
-        ),
-        (
-            "'a'b'",
-            &[
-                (0, Want::Text("a")),
-                (3, Want::Named("b")),
-                (4, Want::Bad),
-                (5, Want::End),
-            ],
-        ),
-    ];
-    for (batch, wants) in cases {
+    for (batch, wants) in NUMBERS_AND_TEXTS {
         assert!(rt;
             has_tokens(rt.alloc(), batch.as_bytes(), wants)?,
             "at {batch}"
@@ -185,56 +187,57 @@ fn numbers_and_texts(rt: HostRuntime) -> Result<(), Fail> {
     }
     Ok(())
 }
+
+const MARKS: [(&str, &[(u32, Want)]); 3] = [
+    (
+        "( ) , ; . * + - = <> != < <= > >=",
+        &[
+            (0, Want::Mark(Mark::Open)),
+            (2, Want::Mark(Mark::Close)),
+            (4, Want::Mark(Mark::Comma)),
+            (6, Want::Mark(Mark::Semicolon)),
+            (8, Want::Mark(Mark::Dot)),
+            (10, Want::Mark(Mark::Star)),
+            (12, Want::Mark(Mark::Plus)),
+            (14, Want::Mark(Mark::Minus)),
+            (16, Want::Mark(Mark::Equal)),
+            (18, Want::Mark(Mark::NotEqual)),
+            (21, Want::Mark(Mark::NotEqual)),
+            (24, Want::Mark(Mark::Less)),
+            (26, Want::Mark(Mark::AtMost)),
+            (29, Want::Mark(Mark::Greater)),
+            (31, Want::Mark(Mark::AtLeast)),
+            (33, Want::End),
+        ],
+    ),
+    (
+        "<==>=<>>!=!<",
+        &[
+            (0, Want::Mark(Mark::AtMost)),
+            (2, Want::Mark(Mark::Equal)),
+            (3, Want::Mark(Mark::AtLeast)),
+            (5, Want::Mark(Mark::NotEqual)),
+            (7, Want::Mark(Mark::Greater)),
+            (8, Want::Mark(Mark::NotEqual)),
+            (10, Want::Bad),
+            (11, Want::Mark(Mark::Less)),
+            (12, Want::End),
+        ],
+    ),
+    (
+        "a/b",
+        &[
+            (0, Want::Named("a")),
+            (1, Want::Bad),
+            (2, Want::Named("b")),
+            (3, Want::End),
+        ],
+    ),
+];
 
 #[test]
 fn marks(rt: HostRuntime) -> Result<(), Fail> {
-    let cases: [(&str, &[(u32, Want)]); 3] = [
-        (
-            "( ) , ; . * + - = <> != < <= > >=",
-            &[
-                (0, Want::Mark(Mark::Open)),
-                (2, Want::Mark(Mark::Close)),
-                (4, Want::Mark(Mark::Comma)),
-                (6, Want::Mark(Mark::Semicolon)),
-                (8, Want::Mark(Mark::Dot)),
-                (10, Want::Mark(Mark::Star)),
-                (12, Want::Mark(Mark::Plus)),
-                (14, Want::Mark(Mark::Minus)),
-                (16, Want::Mark(Mark::Equal)),
-                (18, Want::Mark(Mark::NotEqual)),
-                (21, Want::Mark(Mark::NotEqual)),
-                (24, Want::Mark(Mark::Less)),
-                (26, Want::Mark(Mark::AtMost)),
-                (29, Want::Mark(Mark::Greater)),
-                (31, Want::Mark(Mark::AtLeast)),
-                (33, Want::End),
-            ],
-        ),
-        (
-            "<==>=<>>!=!<",
-            &[
-                (0, Want::Mark(Mark::AtMost)),
-                (2, Want::Mark(Mark::Equal)),
-                (3, Want::Mark(Mark::AtLeast)),
-                (5, Want::Mark(Mark::NotEqual)),
-                (7, Want::Mark(Mark::Greater)),
-                (8, Want::Mark(Mark::NotEqual)),
-                (10, Want::Bad),
-                (11, Want::Mark(Mark::Less)),
-                (12, Want::End),
-            ],
-        ),
-        (
-            "a/b",
-            &[
-                (0, Want::Named("a")),
-                (1, Want::Bad),
-                (2, Want::Named("b")),
-                (3, Want::End),
-            ],
-        ),
-    ];
-    for (batch, wants) in cases {
+    for (batch, wants) in MARKS {
         assert!(rt;
             has_tokens(rt.alloc(), batch.as_bytes(), wants)?,
             "at {batch}"
@@ -243,49 +246,50 @@ fn marks(rt: HostRuntime) -> Result<(), Fail> {
     Ok(())
 }
 
+const COMMENTS: [(&str, &[(u32, Want)]); 12] = [
+    (
+        "a--b\nc",
+        &[(0, Want::Named("a")), (5, Want::Named("c")), (6, Want::End)],
+    ),
+    ("1--1", &[(0, Want::Number(1)), (4, Want::End)]),
+    (
+        "1- -1",
+        &[
+            (0, Want::Number(1)),
+            (1, Want::Mark(Mark::Minus)),
+            (3, Want::Mark(Mark::Minus)),
+            (4, Want::Number(1)),
+            (5, Want::End),
+        ],
+    ),
+    (
+        "a/**/b",
+        &[(0, Want::Named("a")), (5, Want::Named("b")), (6, Want::End)],
+    ),
+    ("/* /* */ */x", &[(11, Want::Named("x")), (12, Want::End)]),
+    ("/*/*/a*/ */b", &[(11, Want::Named("b")), (12, Want::End)]),
+    (
+        "x /* /* */ y",
+        &[(0, Want::Named("x")), (2, Want::Bad), (12, Want::End)],
+    ),
+    ("/*'*/'*/'", &[(5, Want::Text("*/")), (9, Want::End)]),
+    ("'/*' --'", &[(0, Want::Text("/*")), (8, Want::End)]),
+    (
+        "--/*\n*/a",
+        &[
+            (5, Want::Mark(Mark::Star)),
+            (6, Want::Bad),
+            (7, Want::Named("a")),
+            (8, Want::End),
+        ],
+    ),
+    ("/*-- */a", &[(7, Want::Named("a")), (8, Want::End)]),
+    ("/*/", &[(0, Want::Bad), (3, Want::End)]),
+];
+
 #[test]
 fn comments(rt: HostRuntime) -> Result<(), Fail> {
-    let cases: [(&str, &[(u32, Want)]); 12] = [
-        (
-            "a--b\nc",
-            &[(0, Want::Named("a")), (5, Want::Named("c")), (6, Want::End)],
-        ),
-        ("1--1", &[(0, Want::Number(1)), (4, Want::End)]),
-        (
-            "1- -1",
-            &[
-                (0, Want::Number(1)),
-                (1, Want::Mark(Mark::Minus)),
-                (3, Want::Mark(Mark::Minus)),
-                (4, Want::Number(1)),
-                (5, Want::End),
-            ],
-        ),
-        (
-            "a/**/b",
-            &[(0, Want::Named("a")), (5, Want::Named("b")), (6, Want::End)],
-        ),
-        ("/* /* */ */x", &[(11, Want::Named("x")), (12, Want::End)]),
-        ("/*/*/a*/ */b", &[(11, Want::Named("b")), (12, Want::End)]),
-        (
-            "x /* /* */ y",
-            &[(0, Want::Named("x")), (2, Want::Bad), (12, Want::End)],
-        ),
-        ("/*'*/'*/'", &[(5, Want::Text("*/")), (9, Want::End)]),
-        ("'/*' --'", &[(0, Want::Text("/*")), (8, Want::End)]),
-        (
-            "--/*\n*/a",
-            &[
-                (5, Want::Mark(Mark::Star)),
-                (6, Want::Bad),
-                (7, Want::Named("a")),
-                (8, Want::End),
-            ],
-        ),
-        ("/*-- */a", &[(7, Want::Named("a")), (8, Want::End)]),
-        ("/*/", &[(0, Want::Bad), (3, Want::End)]),
-    ];
-    for (batch, wants) in cases {
+    for (batch, wants) in COMMENTS {
         assert!(rt;
             has_tokens(rt.alloc(), batch.as_bytes(), wants)?,
             "at {batch}"
