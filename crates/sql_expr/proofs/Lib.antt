@@ -1,0 +1,13 @@
+pub mod Lists
+pub mod Ranks
+pub mod Sound
+pub mod Taking
+pub mod Complete
+pub mod Promises
+pub mod Agreement
+pub mod Viable
+pub mod Limits
+pub mod Parts
+pub mod LawLemmas
+pub mod Answering
+pub mod Batches

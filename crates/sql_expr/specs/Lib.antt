@@ -1,0 +1,10 @@
+pub mod Got
+pub mod Rules
+pub mod Roles
+pub mod Grammar
+pub mod Symbols
+pub mod Table
+pub mod Machine
+pub mod Read
+pub mod Steps
+pub mod Laws
