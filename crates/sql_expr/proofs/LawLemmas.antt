@@ -226,7 +226,7 @@ unlimited_begins names truth front t s p m why at leads stops limit =
     gone_on names truth front t (feed names loose s p m t) (freed why at (feed names strict s p m t) (feed names loose s p m t) stops limit (frees_feed names s p m t))
     (run_append names loose front (t ∷ []) (whole truth) s no_part p 1000 m (same_run names loose front (whole truth) s no_part p 1000 m leads))
 
-holds_broken : (why : Fault) → Holds (broken why) why
+pub holds_broken : (why : Fault) → Holds (broken why) why
 holds_broken CantStand = tt
 holds_broken WrongKind = refl
 holds_broken TooDeep = refl

@@ -1,0 +1,25 @@
+//! What reading a form promises in words of the grammar, as functions whose contracts say it.
+
+ghost use Rattle.std.specs.Prelude.{◌≡◌, ◌∷◌, ◌++◌, true, false, ℕ, List};
+ghost use Rattle.sql_lex.specs.declared.token.Token.{Token};
+ghost use Rattle.sql_expr.specs.Got.{Done, Refused};
+ghost use Rattle.sql_form.specs.Form.{Form, Value};
+ghost use Rattle.sql_form.specs.Grammar.{IsPlain, IsForm, continues};
+ghost use Rattle.sql_form.specs.Laws.{has_end, IsFront, IsRefused};
+ghost use Rattle.sql_form.specs.Read.{read};
+ghost use Rattle.sql_form.specs.Rules.{Rules, Breach, strict};
+
+/// What is read of a form stands in front and is of the form.
+pub fn what_is_read_is_of_the_form()
+    ensures { (f : Form) → IsPlain f → (ts rest : List Token) (x : Value f) → has_end ts ≡ true → read strict f ts ≡ Done x rest → IsFront f ts x rest }
+{}
+
+/// What is of a form is read, by the rules that it keeps, whatever stands behind it that doesn't go on with it.
+pub fn what_is_of_a_form_is_read()
+    ensures { (r : Rules) (f : Form) → IsPlain f → (x : Value f) (front rest : List Token) (next : Token) → IsForm r f x front → continues f next.kind ≡ false → read r f (front ++ next ∷ rest) ≡ Done x (next ∷ rest) }
+{}
+
+/// What is refused is refused where the grammar, or one of its rules, leaves nothing of the form.
+pub fn what_is_refused_is_of_no_form()
+    ensures { (f : Form) → IsPlain f → (ts : List Token) (at : ℕ) → has_end ts ≡ true → read strict f ts ≡ Refused at → (why : Breach) × IsRefused f ts why at }
+{}
