@@ -4,6 +4,11 @@ use Rattle.std.proofs.Common.{◌≡◌, ℕ, suc, zero, ◌+◌, ◌-◌, ◌�
 use Rattle.plain_model.specs.Tree.{Tree, Entries}
 use Rattle.plain_model.specs.Shape.{operators}
 use Rattle.plain_model.specs.declared.expr.MathOp.TheVariants.{Sub}
+use Rattle.plain_model.specs.declared.expr.MathOp.{MathOp}
+use Rattle.sql_lex.specs.declared.keyword.Keyword.{Keyword}
+use Rattle.sql_lex.specs.declared.keyword.Keyword.TheVariants as word
+use Rattle.sql_lex.specs.declared.token.Mark.TheVariants as mark
+use Rattle.sql_lex.specs.declared.token.Mark.{Mark}
 use Rattle.sql_lex.specs.declared.token.Token.{Token}
 use Rattle.sql_lex.specs.declared.token.TokenKind.{TokenKind}
 use Rattle.sql_lex.specs.declared.token.TokenKind.TheVariants as kind
@@ -14,43 +19,154 @@ use Rattle.sql_expr.specs.declared.role.Level.TheVariants.{Ors, Ands, Nots, Comp
 use Rattle.sql_expr.specs.Rules.{Rules, loose}
 use Rattle.sql_expr.specs.Got.{Got, Done, Refused}
 use Rattle.sql_expr.specs.Grammar.{IsExpr, one, brackets, minus, negation, onward, Follows, nothing, chain, compare, is_null, between, within, AreEntries, last, more, IsWhole}
-use Rattle.sql_expr.specs.Roles.{kind_role, role_of, null_of, leaf}
+use Rattle.sql_expr.specs.Roles.{word_role, mark_role, kind_role, role_of, null_of, leaf}
 use Rattle.sql_expr.specs.Symbols.{Part, part, Symbol, Whole, May, Judge}
 use Rattle.sql_expr.specs.Table.{Step, Stuck, Take, Leave, Action, at_leaf, start_unary, start_not, start}
 use Rattle.sql_expr.specs.Machine.{Fault, CantStand, TooDeep, TooMany, Next, Go, Over, Refuse, only_if, judged, opened, counted, stepped, carried_out, feed}
 use Rattle.sql_expr.specs.Read.{Outcome, Open, Ended, Stopped, run, no_part, whole, reading, got}
-use Rattle.sql_expr.specs.Laws.{place}
+use Rattle.sql_expr.specs.Laws.{place, Begins}
 use Rattle.sql_expr.proofs.Lists.{has, has_some}
 use Rattle.sql_expr.proofs.Viable.{end_token, no_kinds, no_levels}
-use Rattle.sql_expr.proofs.LawLemmas.{completely, Finishes, ended}
-use Rattle.sql_form.specs.Grammar.{starts}
+use Rattle.sql_expr.proofs.LawLemmas.{completely, Finishes, ended, front_begins}
+use Rattle.sql_form.specs.Grammar.{word_starts, mark_starts, starts}
 use Rattle.sql_form.proofs.BoolLemmas.{not_false}
 
-no_null : (k : Role) → starts k ≡ false → null_of k ≡ None
+no_null : (k : Role) → word_starts k ≡ false → null_of k ≡ None
 no_null role.Null h = cc
 no_null _ h = refl
 
-no_leaf : (names : Bool) (k : TokenKind) → starts (kind_role k) ≡ false → leaf names k ≡ None
+no_leaf : (names : Bool) (k : TokenKind) → starts names k ≡ false → leaf names k ≡ None
 no_leaf names (kind.Key word) h = no_null (kind_role (kind.Key word)) h
-no_leaf names (kind.Named name) h = cc
-no_leaf names (kind.Bracketed name) h = cc
+no_leaf names (kind.Named name) h = rw h refl
+no_leaf names (kind.Bracketed name) h = rw h refl
 no_leaf names (kind.Number n) h = cc
 no_leaf names (kind.Text text) h = cc
 no_leaf names (kind.Mark mark) h = refl
 no_leaf names kind.Bad h = refl
 no_leaf names kind.End h = refl
 
-cant_feed : (names : Bool) (r : Rules) (truth : Bool) (t : Token) (k : Role) → role_of t ≡ k → starts k ≡ false → leaf names t.kind ≡ None → feed names r (whole truth) no_part 1000 t ≡ Refuse CantStand t.at
-cant_feed names r truth t role.Open is h l = cc
-cant_feed names r truth t (role.Math Sub) is h l = cc
-cant_feed names r truth t role.Not is h l = cc
-cant_feed names r truth t role.Null is h l = cc
-cant_feed names r truth t role.Leaf is h l = cc
+-- a word or a mark that no expression begins with
+abbrev NoStart : Role → Type 0
+NoStart role.Open = ⊥
+NoStart (role.Math Sub) = ⊥
+NoStart role.Not = ⊥
+NoStart _ = Unit {0}
+
+never_open : (w : Keyword) → word_role w ≡ role.Open → ⊥
+never_open word.And h = cc
+never_open word.Or h = cc
+never_open word.Not h = cc
+never_open word.Is h = cc
+never_open word.Null h = cc
+never_open word.Between h = cc
+never_open word.In h = cc
+never_open _ h = cc
+
+never_math : (w : Keyword) (op : MathOp) → word_role w ≡ role.Math op → ⊥
+never_math word.And op h = cc
+never_math word.Or op h = cc
+never_math word.Not op h = cc
+never_math word.Is op h = cc
+never_math word.Null op h = cc
+never_math word.Between op h = cc
+never_math word.In op h = cc
+never_math _ op h = cc
+
+never_not : (m : Mark) → mark_role m ≡ role.Not → ⊥
+never_not mark.Open h = cc
+never_not mark.Close h = cc
+never_not mark.Comma h = cc
+never_not mark.Star h = cc
+never_not mark.Plus h = cc
+never_not mark.Minus h = cc
+never_not mark.Equal h = cc
+never_not mark.NotEqual h = cc
+never_not mark.Less h = cc
+never_not mark.AtMost h = cc
+never_not mark.Greater h = cc
+never_not mark.AtLeast h = cc
+never_not _ h = cc
+
+no_word : (w : Keyword) (k : Role) → word_role w ≡ k → word_starts k ≡ false → NoStart k
+no_word w role.Open is h = absurd (never_open w is)
+no_word w (role.Math op) is h = absurd (never_math w op is)
+no_word w role.Not is h = cc
+no_word w _ is h = tt
+
+no_mark : (m : Mark) (k : Role) → mark_role m ≡ k → mark_starts k ≡ false → NoStart k
+no_mark m role.Open is h = cc
+no_mark m (role.Math Sub) is h = cc
+no_mark m role.Not is h = absurd (never_not m is)
+no_mark m _ is h = tt
+
+no_start : (names : Bool) (k : TokenKind) → starts names k ≡ false → NoStart (kind_role k)
+no_start names (kind.Key word) h = no_word word (word_role word) refl h
+no_start names (kind.Named name) h = tt
+no_start names (kind.Bracketed name) h = tt
+no_start names (kind.Number n) h = tt
+no_start names (kind.Text text) h = tt
+no_start names (kind.Mark mark) h = no_mark mark (mark_role mark) refl h
+no_start names kind.Bad h = tt
+no_start names kind.End h = tt
+
+cant_feed : (names : Bool) (r : Rules) (truth : Bool) (t : Token) (k : Role) → role_of t ≡ k → NoStart k → leaf names t.kind ≡ None → feed names r (whole truth) no_part 1000 t ≡ Refuse CantStand t.at
+cant_feed names r truth t role.Open is h l = absurd h
+cant_feed names r truth t (role.Math Sub) is h l = absurd h
+cant_feed names r truth t role.Not is h l = absurd h
 cant_feed names r truth t _ is h l = rw (is, l) refl
 
 -- no expression begins with another token
-pub cant_start : (names : Bool) (r : Rules) (truth : Bool) (t : Token) (ts : List Token) → starts (role_of t) ≡ false → reading names r truth (t ∷ ts) ≡ Stopped CantStand t.at
-cant_start names r truth t ts h = rw (cant_feed names r truth t (role_of t) refl h (no_leaf names t.kind h)) refl
+pub cant_start : (names : Bool) (r : Rules) (truth : Bool) (t : Token) (ts : List Token) → starts names t.kind ≡ false → reading names r truth (t ∷ ts) ≡ Stopped CantStand t.at
+cant_start names r truth t ts h = rw (cant_feed names r truth t (role_of t) refl (no_start names t.kind h) (no_leaf names t.kind h)) refl
+
+-- the first token leads on, where no rules hold
+abbrev IsReady : Role → Option Tree → Type 0
+IsReady role.Open o = Unit {0}
+IsReady (role.Math Sub) o = Unit {0}
+IsReady role.Not o = Unit {0}
+IsReady _ (Some e) = Unit {0}
+IsReady _ None = ⊥
+
+ready_word : (k : Role) → word_starts k ≡ true → IsReady k (null_of k)
+ready_word role.Not h = tt
+ready_word role.Null h = tt
+ready_word _ h = cc
+
+ready_mark : (k : Role) → mark_starts k ≡ true → IsReady k None
+ready_mark role.Open h = tt
+ready_mark (role.Math Sub) h = tt
+ready_mark _ h = cc
+
+ready : (names : Bool) (k : TokenKind) → starts names k ≡ true → IsReady (kind_role k) (leaf names k)
+ready names (kind.Key word) h = ready_word (word_role word) h
+ready names (kind.Named name) h = rw h tt
+ready names (kind.Bracketed name) h = rw h tt
+ready names (kind.Number n) h = tt
+ready names (kind.Text text) h = tt
+ready names (kind.Mark mark) h = ready_mark (mark_role mark) h
+ready names kind.Bad h = cc
+ready names kind.End h = cc
+
+abbrev Goes : Next → Type 0
+Goes (Go s p m) = Unit {0}
+Goes (Over p m) = ⊥
+Goes (Refuse why at) = ⊥
+
+go_first : (names truth : Bool) (t : Token) (k : Role) (o : Option Tree) → role_of t ≡ k → leaf names t.kind ≡ o → IsReady k o → Goes (feed names loose (whole truth) no_part 1000 t)
+go_first names truth t role.Open o is l h = rw is tt
+go_first names truth t (role.Math Sub) o is l h = rw is tt
+go_first names truth t role.Not o is l h = rw is tt
+go_first names truth t k (Some e) is l h = rw (is, l) tt
+go_first names truth t k None is l h = absurd h
+
+gone_first : (names truth : Bool) (t : Token) (next : Next) → feed names loose (whole truth) no_part 1000 t ≡ next → Goes next → Begins names loose truth (t ∷ [])
+gone_first names truth t (Go s p m) is h = front_begins names loose truth (t ∷ []) s p m (rw is refl)
+gone_first names truth t (Over p m) is h = absurd h
+gone_first names truth t (Refuse why at) is h = absurd h
+
+-- an expression begins with such a token
+pub start_begins : (names truth : Bool) (t : Token) → starts names t.kind ≡ true → Begins names loose truth (t ∷ [])
+start_begins names truth t h = gone_first names truth t (feed names loose (whole truth) no_part 1000 t) refl (go_first names truth t (role_of t) (leaf names t.kind) refl refl (ready names t.kind h))
 
 -- an expression has a token
 pub no_expr : (names : Bool) (r : Rules) (truth : Bool) (e : Tree) → IsWhole names r truth e [] → ⊥
@@ -60,8 +176,8 @@ ended_stopped : (o : Outcome) (p : Part) (m : ℕ) (rest : List Token) (why : Fa
 ended_stopped o p m rest why at h k = cc
 
 -- and begins as expressions do
-pub expr_begins : (names : Bool) (r : Rules) (truth : Bool) (e : Tree) (t : Token) (ts : List Token) → IsWhole names r truth e (t ∷ ts) → starts (role_of t) ≡ true
-expr_begins names r truth e t ts w = not_false (starts (role_of t)) (λ h. ended_stopped (reading names r truth (t ∷ (ts ++ end_token ∷ []))) (part e (place (t ∷ ts))) (1000 - operators e) (end_token ∷ []) CantStand t.at
+pub expr_begins : (names : Bool) (r : Rules) (truth : Bool) (e : Tree) (t : Token) (ts : List Token) → IsWhole names r truth e (t ∷ ts) → starts names t.kind ≡ true
+expr_begins names r truth e t ts w = not_false (starts names t.kind) (λ h. ended_stopped (reading names r truth (t ∷ (ts ++ end_token ∷ []))) (part e (place (t ∷ ts))) (1000 - operators e) (end_token ∷ []) CantStand t.at
     (completely names r truth e (t ∷ ts) (end_token ∷ []) w refl) (cant_start names r truth t (ts ++ end_token ∷ []) h))
 
 -- an expression isn't over before its first token

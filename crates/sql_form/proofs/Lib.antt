@@ -3,3 +3,9 @@ pub mod Expressions
 pub mod Shorter
 pub mod Beginning
 pub mod Complete
+pub mod Samples
+pub mod Told
+pub mod ToldLeaves
+pub mod ToldForms
+pub mod ToldParts
+pub mod FormLaws

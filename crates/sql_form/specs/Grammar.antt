@@ -6,25 +6,39 @@ use Rattle.sql_lex.specs.declared.context_word.ContextWord.TheVariants as place
 use Rattle.sql_lex.specs.declared.token.Mark.TheVariants as mark
 use Rattle.sql_lex.specs.declared.token.Token.{Token}
 use Rattle.sql_lex.specs.declared.token.TokenKind.{TokenKind}
+use Rattle.sql_lex.specs.declared.token.TokenKind.TheVariants as kind
 use Rattle.sql_lex.specs.Ahead.{first_of}
 use Rattle.sql_lex.specs.Words.{letters_of}
 use Rattle.sql_expr.specs.declared.role.Role.{Role}
 use Rattle.sql_expr.specs.declared.role.Role.TheVariants as role
 use Rattle.plain_model.specs.declared.expr.MathOp.TheVariants.{Sub}
 use Rattle.sql_expr.specs.Grammar.{IsWhole}
-use Rattle.sql_expr.specs.Roles.{kind_role}
+use Rattle.sql_expr.specs.Roles.{word_role, mark_role, kind_role}
 use Rattle.sql_expr.specs.Laws.{goes_on}
 use Rattle.sql_form.specs.Rules.{Rules, loose}
 use Rattle.sql_form.specs.Form.{Leaf, said, is_sign, name_of, Form, One, Table, Expr, Then, Or, May, Many, Parts, Either, Left, Right, Value}
 
--- a token with which an expression begins
-abbrev pub starts : Role → Bool
-starts role.Open = true
-starts (role.Math Sub) = true
-starts role.Not = true
-starts role.Null = true
-starts role.Leaf = true
-starts _ = false
+-- a word with which an expression begins
+abbrev pub word_starts : Role → Bool
+word_starts role.Not = true
+word_starts role.Null = true
+word_starts _ = false
+
+-- a mark with which an expression begins
+abbrev pub mark_starts : Role → Bool
+mark_starts role.Open = true
+mark_starts (role.Math Sub) = true
+mark_starts _ = false
+
+-- a token with which an expression begins, names of columns where they may stand
+abbrev pub starts : Bool → TokenKind → Bool
+starts names (kind.Key word) = word_starts (word_role word)
+starts names (kind.Mark mark) = mark_starts (mark_role mark)
+starts names (kind.Named name) = names
+starts names (kind.Bracketed name) = names
+starts names (kind.Number n) = true
+starts names (kind.Text text) = true
+starts names _ = false
 
 -- the first if there is one, else either
 abbrev pub or_if : Bool → Bool → Bool → Bool
@@ -46,7 +60,7 @@ is_solid (Parts most counted part) = true
 abbrev pub first : Form → TokenKind → Bool
 first (One leaf) k = is_some (said loose leaf k)
 first Table k = is_some (name_of k)
-first (Expr names truth) k = starts (kind_role k)
+first (Expr names truth) k = starts names k
 first (Then f g) k = or_if (is_solid f) (first f k) (first g k)
 first (Or f g) k = first f k || first g k
 first (May f) k = first f k
