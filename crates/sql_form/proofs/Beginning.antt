@@ -67,9 +67,9 @@ none_needed r (Or f g) p (Left x) ts e h = absurd (true_not (is_solid f) p.2 (no
 none_needed r (Or f g) p (Right x) ts e h = absurd (true_not (is_solid g) p.3 (none_needed r g p.1 x ts e h))
 none_needed r (May f) p x ts e h = refl
 none_needed r (Many f) p x ts e h = refl
-none_needed r (Parts most counted part) p [] ts e h = absurd h
-none_needed r (Parts most counted part) p (x ∷ []) ts e h = absurd (true_not (is_solid part) p.1 (none_needed r part p.0 x ts e h.0))
-none_needed r (Parts most counted part) p (x ∷ (y ∷ ys)) ts e h = absurd (some_part h.0 h.2 h.1 (sym e ∙ h.3))
+none_needed r (Parts most every part) p [] ts e h = absurd h
+none_needed r (Parts most every part) p (x ∷ []) ts e h = absurd (true_not (is_solid part) p.1 (none_needed r part p.0 x ts e h.0))
+none_needed r (Parts most every part) p (x ∷ (y ∷ ys)) ts e h = absurd (some_part h.0 h.2 h.1 (sym e ∙ h.3))
 
 then_begins : (f g : Form) (t : Token) (ts us vs : List Token) → t ∷ ts ≡ us ++ vs → (us ≡ [] → is_solid f ≡ false) → ((u : Token) (rest : List Token) → us ≡ u ∷ rest → first f u.kind ≡ true) → ((v : Token) (rest : List Token) → vs ≡ v ∷ rest → first g v.kind ≡ true)
     → or_if (is_solid f) (first f t.kind) (first g t.kind) ≡ true
@@ -94,7 +94,7 @@ begins r (May f) p (Some x) ts t rest e h = begins r f p.0 x ts t rest e h
 begins r (May f) p None ts t rest e h = cc
 begins r (Many f) p [] ts t rest e h = cc
 begins r (Many f) p (x ∷ xs) ts t rest e (us, vs, split, h, hs) = front_begins f t rest us vs (sym e ∙ split) p.1 (λ n. none_needed r f p.0 x us n h) (λ u more n. begins r f p.0 x us u more n h)
-begins r (Parts most counted part) p [] ts t rest e h = absurd h
-begins r (Parts most counted part) p (x ∷ []) ts t rest e h = begins r part p.0 x ts t rest e h.0
-begins r (Parts most counted part) p (x ∷ (y ∷ ys)) ts t rest e h =
+begins r (Parts most every part) p [] ts t rest e h = absurd h
+begins r (Parts most every part) p (x ∷ []) ts t rest e h = begins r part p.0 x ts t rest e h.0
+begins r (Parts most every part) p (x ∷ (y ∷ ys)) ts t rest e h =
     front_begins part t rest h.0 (h.1 ∷ h.2) (sym e ∙ h.3) p.1 (λ n. none_needed r part p.0 x h.0 n h.4) (λ u more n. begins r part p.0 x h.0 u more n h.4)

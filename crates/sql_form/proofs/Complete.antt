@@ -11,7 +11,7 @@ use Rattle.sql_expr.specs.Read.{got}
 use Rattle.sql_expr.proofs.LawLemmas.{completely}
 use Rattle.sql_form.specs.Rules.{Rules}
 use Rattle.sql_form.specs.Form.{is_sign, name_of, Form, One, Table, Expr, Then, Or, May, Many, Parts, Either, Left, Right, Value}
-use Rattle.sql_form.specs.Grammar.{is_solid, first, or_if, continues, IsPlain, IsTable, alone, within, AreMany, AreParts, is_full, spared, IsForm}
+use Rattle.sql_form.specs.Grammar.{counts, is_solid, first, or_if, continues, IsPlain, IsTable, alone, within, AreMany, AreParts, is_full, spared, IsForm}
 use Rattle.sql_form.specs.Read.{taken, chosen, made, joined, limited, followed, read}
 use Rattle.sql_form.proofs.BoolLemmas.{or_if_not, or_if_other, either_left, either_right, not_true, true_not}
 use Rattle.sql_form.proofs.Beginning.{none_needed, begins}
@@ -66,22 +66,22 @@ many_complete r f p c (x ∷ xs) us (a ∷ qs, bs, split, h, hs) v rest k =
 comma_next : (r : Rules) (part : Form) → ((k : TokenKind) → continues part k ≡ true → is_sign mark.Comma k ≡ true → ⊥) → (t : Token) → is_sign mark.Comma t.kind ≡ true → continues part t.kind ≡ false
 comma_next r part clash t h = not_true (continues part t.kind) (λ c. clash t.kind c h)
 
-parts_complete : (r : Rules) (counted part : Form) → IsPlain part → is_solid part ≡ true → ((k : TokenKind) → continues part k ≡ true → is_sign mark.Comma k ≡ true → ⊥) → Completes (Value part) (IsForm r part) (read r part) (continues part)
-    → (xs : List (Value part)) (n : ℕ) (x : Value part) (us : List Token) → AreParts (IsForm r part) r.parts (first counted) n x xs us → (v : Token) (rest : List Token) → (is_sign mark.Comma v.kind || continues part v.kind) ≡ false → parts_from r counted part n (us ++ v ∷ rest) ≡ Done (x ∷ xs) (v ∷ rest)
-parts_complete r counted part p solid clash c [] n x [] h v rest k = absurd (true_not (is_solid part) solid (none_needed r part p x [] refl h.0))
-parts_complete r counted part p solid clash c [] n x (u ∷ us) h v rest k =
-    parts_on r counted part p solid n ((u ∷ us) ++ v ∷ rest)
-    ∙ part_on (is_full r.parts (first counted u.kind) n) u.at (read r part ((u ∷ us) ++ v ∷ rest)) (λ y ys. followed y (parts_from r counted part (spared (first counted u.kind) n)) ys) x (v ∷ rest) (Done (x ∷ []) (v ∷ rest)) h.1
+parts_complete : (r : Rules) (every : Bool) (part : Form) → IsPlain part → is_solid part ≡ true → ((k : TokenKind) → continues part k ≡ true → is_sign mark.Comma k ≡ true → ⊥) → Completes (Value part) (IsForm r part) (read r part) (continues part)
+    → (xs : List (Value part)) (n : ℕ) (x : Value part) (us : List Token) → AreParts (IsForm r part) r.parts (counts every part) n x xs us → (v : Token) (rest : List Token) → (is_sign mark.Comma v.kind || continues part v.kind) ≡ false → parts_from r every part n (us ++ v ∷ rest) ≡ Done (x ∷ xs) (v ∷ rest)
+parts_complete r every part p solid clash c [] n x [] h v rest k = absurd (true_not (is_solid part) solid (none_needed r part p x [] refl h.0))
+parts_complete r every part p solid clash c [] n x (u ∷ us) h v rest k =
+    parts_on r every part p solid n ((u ∷ us) ++ v ∷ rest)
+    ∙ part_on (is_full r.parts (counts every part u.kind) n) u.at (read r part ((u ∷ us) ++ v ∷ rest)) (λ y ys. followed y (parts_from r every part (spared (counts every part u.kind) n)) ys) x (v ∷ rest) (Done (x ∷ []) (v ∷ rest)) h.1
     (c x (u ∷ us) h.0 v rest (either_right (is_sign mark.Comma v.kind) (continues part v.kind) k))
-    (chosen_right (is_sign mark.Comma v.kind) (made (λ ys. x ∷ ys) (parts_from r counted part (spared (first counted u.kind) n) rest)) (Done (x ∷ []) (v ∷ rest)) (Done (x ∷ []) (v ∷ rest)) (either_left (is_sign mark.Comma v.kind) (continues part v.kind) k) refl)
-parts_complete r counted part p solid clash c (y ∷ ys) n x us ([], comma, bs, split, h, room, is, hs) v rest k = absurd (true_not (is_solid part) solid (none_needed r part p x [] refl h))
-parts_complete r counted part p solid clash c (y ∷ ys) n x us (a ∷ qs, comma, bs, split, h, room, is, hs) v rest k =
-    ap (parts_from r counted part n) (ap (λ (zs : List Token). zs ++ v ∷ rest) split ∙ append_assoc (a ∷ qs) (comma ∷ bs) (v ∷ rest))
-    ∙ parts_on r counted part p solid n ((a ∷ qs) ++ comma ∷ (bs ++ v ∷ rest))
-    ∙ part_on (is_full r.parts (first counted a.kind) n) a.at (read r part ((a ∷ qs) ++ comma ∷ (bs ++ v ∷ rest))) (λ z zs. followed z (parts_from r counted part (spared (first counted a.kind) n)) zs) x (comma ∷ (bs ++ v ∷ rest)) (Done (x ∷ (y ∷ ys)) (v ∷ rest)) room
+    (chosen_right (is_sign mark.Comma v.kind) (made (λ ys. x ∷ ys) (parts_from r every part (spared (counts every part u.kind) n) rest)) (Done (x ∷ []) (v ∷ rest)) (Done (x ∷ []) (v ∷ rest)) (either_left (is_sign mark.Comma v.kind) (continues part v.kind) k) refl)
+parts_complete r every part p solid clash c (y ∷ ys) n x us ([], comma, bs, split, h, room, is, hs) v rest k = absurd (true_not (is_solid part) solid (none_needed r part p x [] refl h))
+parts_complete r every part p solid clash c (y ∷ ys) n x us (a ∷ qs, comma, bs, split, h, room, is, hs) v rest k =
+    ap (parts_from r every part n) (ap (λ (zs : List Token). zs ++ v ∷ rest) split ∙ append_assoc (a ∷ qs) (comma ∷ bs) (v ∷ rest))
+    ∙ parts_on r every part p solid n ((a ∷ qs) ++ comma ∷ (bs ++ v ∷ rest))
+    ∙ part_on (is_full r.parts (counts every part a.kind) n) a.at (read r part ((a ∷ qs) ++ comma ∷ (bs ++ v ∷ rest))) (λ z zs. followed z (parts_from r every part (spared (counts every part a.kind) n)) zs) x (comma ∷ (bs ++ v ∷ rest)) (Done (x ∷ (y ∷ ys)) (v ∷ rest)) room
     (c x (a ∷ qs) h comma (bs ++ v ∷ rest) (comma_next r part clash comma is))
-    (chosen_left (is_sign mark.Comma comma.kind) (made (λ zs. x ∷ zs) (parts_from r counted part (spared (first counted a.kind) n) (bs ++ v ∷ rest))) (Done (x ∷ []) (comma ∷ (bs ++ v ∷ rest))) (Done (x ∷ (y ∷ ys)) (v ∷ rest)) is
-    (made_done (λ zs. x ∷ zs) (parts_from r counted part (spared (first counted a.kind) n) (bs ++ v ∷ rest)) (y ∷ ys) (v ∷ rest) (parts_complete r counted part p solid clash c ys (spared (first counted a.kind) n) y bs hs v rest k)))
+    (chosen_left (is_sign mark.Comma comma.kind) (made (λ zs. x ∷ zs) (parts_from r every part (spared (counts every part a.kind) n) (bs ++ v ∷ rest))) (Done (x ∷ []) (comma ∷ (bs ++ v ∷ rest))) (Done (x ∷ (y ∷ ys)) (v ∷ rest)) is
+    (made_done (λ zs. x ∷ zs) (parts_from r every part (spared (counts every part a.kind) n) (bs ++ v ∷ rest)) (y ∷ ys) (v ∷ rest) (parts_complete r every part p solid clash c ys (spared (counts every part a.kind) n) y bs hs v rest k)))
 
 or_right : (f g : Form) → ((k : TokenKind) → first f k ≡ true → first g k ≡ true → ⊥) → (k : TokenKind) → first g k ≡ true → first f k ≡ false
 or_right f g clash k h = not_true (first f k) (λ e. clash k e h)
@@ -111,5 +111,5 @@ complete r (May f) p (Some x) (u ∷ us) h v rest k =
     chosen_left (first f u.kind) (made Some (read r f ((u ∷ us) ++ v ∷ rest))) (Done None ((u ∷ us) ++ v ∷ rest)) (Done (Some x) (v ∷ rest)) (begins r f p.0 x (u ∷ us) u us refl h)
     (made_done Some (read r f ((u ∷ us) ++ v ∷ rest)) x (v ∷ rest) (complete r f p.0 x (u ∷ us) h v rest (either_right (first f v.kind) (continues f v.kind) k)))
 complete r (Many f) p xs us h v rest k = many_complete r f p (complete r f p.0) xs us h v rest k
-complete r (Parts most counted part) p [] us h v rest k = absurd h
-complete r (Parts most counted part) p (x ∷ xs) us h v rest k = parts_complete r counted part p.0 p.1 p.2 (complete r part p.0) xs most x us h v rest k
+complete r (Parts most every part) p [] us h v rest k = absurd h
+complete r (Parts most every part) p (x ∷ xs) us h v rest k = parts_complete r every part p.0 p.1 p.2 (complete r part p.0) xs most x us h v rest k

@@ -15,7 +15,7 @@ use Rattle.sql_form.proofs.Samples.{Begun}
 use Rattle.sql_form.proofs.Told.{Reached, Halted, Told, reached_split}
 use Rattle.sql_form.proofs.ToldLeaves.{told_one, told_table, told_expr}
 use Rattle.sql_form.proofs.ToldForms.{Tells, tells_then, tells_or, tells_may, tells_many}
-use Rattle.sql_form.proofs.ToldParts.{tells_parts}
+use Rattle.sql_form.proofs.ToldParts.{counts_first, tells_parts}
 
 -- what reading a form tells of the tokens in front
 pub tells : (f : Form) → IsPlain f → (ts : List Token) → has_end ts ≡ true → Tells f ts
@@ -28,7 +28,7 @@ tells (Or f g) p (t ∷ ts) e = tells_or f g t ts (tells f p.0 (t ∷ ts) e) (te
 tells (May f) p [] e = cc
 tells (May f) p (t ∷ ts) e = tells_may f t ts e (tells f p.0 (t ∷ ts) e) (first f t.kind) refl
 tells (Many f) p ts e = tells_many f p (tells f p.0) (length ts) ts (omega arith) e
-tells (Parts most counted part) p ts e = tells_parts counted part p.0 p.1 p.3 (tells part p.0) (length ts) most ts (omega arith) e
+tells (Parts most every part) p ts e = tells_parts every part p.0 p.1 (counts_first every part) (tells part p.0) (length ts) most ts (omega arith) e
 
 -- what was read, and what stands behind it
 pub reached : (f : Form) → IsPlain f → (ts rest : List Token) (x : Value f) → has_end ts ≡ true → read strict f ts ≡ Done x rest → Reached (Value f) (IsForm strict f) (λ r. read r f) ts x rest

@@ -9,3 +9,4 @@ pub mod ToldLeaves
 pub mod ToldForms
 pub mod ToldParts
 pub mod FormLaws
+pub mod PlainLemmas

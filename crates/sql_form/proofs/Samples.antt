@@ -16,7 +16,7 @@ use Rattle.sql_expr.proofs.LawLemmas.{front_begins}
 use Rattle.sql_expr.proofs.Viable.{mark_token}
 use Rattle.sql_form.specs.Rules.{Rules, strict, loose}
 use Rattle.sql_form.specs.Form.{Leaf, Key, Word, Sign, Nought, AnyName, AnyNumber, FileText, NameText, LeafValue, said, is_sign, name_of, Form, One, Table, Expr, Then, Or, May, Many, Parts, Either, Left, Right, Value}
-use Rattle.sql_form.specs.Grammar.{is_solid, first, or_if, continues, IsPlain, IsTable, alone, within, AreMany, AreParts, is_full, spared, IsList, IsForm}
+use Rattle.sql_form.specs.Grammar.{counts, is_solid, first, or_if, continues, IsPlain, IsTable, alone, within, AreMany, AreParts, is_full, spared, IsList, IsForm}
 use Rattle.sql_form.proofs.BoolLemmas.{or_if_not}
 use Rattle.sql_form.proofs.Expressions.{start_begins, loose_whole}
 use Rattle.sql_form.proofs.Beginning.{looser_said}
@@ -62,7 +62,7 @@ sample (Then f g) = then_begun f g [] (sample f) (sample g)
 sample (Or f g) = let b = sample f in record { more = b.more; value = Left b.value; is_so = b.is_so }
 sample (May f) = record { more = []; value = None; is_so = refl }
 sample (Many f) = record { more = []; value = []; is_so = refl }
-sample (Parts most counted part) = let b = sample part in record { more = b.more; value = b.value ∷ []; is_so = (b.is_so, refl) }
+sample (Parts most every part) = let b = sample part in record { more = b.more; value = b.value ∷ []; is_so = (b.is_so, refl) }
 
 -- a form that needs no token is of none
 pub record Empty (f : Form) : Type 0 where
@@ -86,7 +86,7 @@ empty (Then f g) h =
 empty (Or f g) h = cc
 empty (May f) h = record { value = None; is = refl }
 empty (Many f) h = record { value = []; is = refl }
-empty (Parts most counted part) h = cc
+empty (Parts most every part) h = cc
 
 leaf_begun : (l : Leaf) (t : Token) (o : Option (LeafValue l)) → said loose l t.kind ≡ o → is_some o ≡ true → Begun (LeafValue l) (IsForm loose (One l)) (t ∷ [])
 leaf_begun l t (Some x) is h = record { more = []; value = x; is_so = (t, refl, is) }
@@ -119,7 +119,7 @@ begun (Then f g) t h = then_first f g t (is_solid f) (first f t.kind) refl refl 
 begun (Or f g) t h = or_first f g t (first f t.kind) refl h (begun f t) (begun g t)
 begun (May f) t h = let b = begun f t h in record { more = b.more; value = Some b.value; is_so = b.is_so }
 begun (Many f) t h = let b = begun f t h in record { more = b.more; value = b.value ∷ []; is_so = ((t ∷ []) ++ b.more, [], sym (append-nil ((t ∷ []) ++ b.more)), b.is_so, refl) }
-begun (Parts most counted part) t h = let b = begun part t h in record { more = b.more; value = b.value ∷ []; is_so = (b.is_so, refl) }
+begun (Parts most every part) t h = let b = begun part t h in record { more = b.more; value = b.value ∷ []; is_so = (b.is_so, refl) }
 
 loose_many : {A : Type 0} (is isl : A → List Token → Type 0) → ((x : A) (ts : List Token) → is x ts → isl x ts) → (xs : List A) (ts : List Token) → AreMany is xs ts → AreMany isl xs ts
 loose_many is isl k [] ts h = h
@@ -140,5 +140,5 @@ loosened r (Or f g) (Right x) ts h = loosened r g x ts h
 loosened r (May f) None ts h = h
 loosened r (May f) (Some x) ts h = loosened r f x ts h
 loosened r (Many f) xs ts h = loose_many (IsForm r f) (IsForm loose f) (loosened r f) xs ts h
-loosened r (Parts most counted part) [] ts h = absurd h
-loosened r (Parts most counted part) (x ∷ xs) ts h = loose_parts (IsForm r part) (IsForm loose part) (loosened r part) r.parts (first counted) xs most x ts h
+loosened r (Parts most every part) [] ts h = absurd h
+loosened r (Parts most every part) (x ∷ xs) ts h = loose_parts (IsForm r part) (IsForm loose part) (loosened r part) r.parts (counts every part) xs most x ts h

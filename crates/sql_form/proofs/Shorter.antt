@@ -11,7 +11,7 @@ use Rattle.sql_expr.specs.Got.{Got, Done, Refused, and_then}
 use Rattle.sql_expr.specs.Read.{reading, got}
 use Rattle.sql_form.specs.Rules.{Rules, loose}
 use Rattle.sql_form.specs.Form.{Leaf, Key, Word, Sign, Nought, AnyName, AnyNumber, FileText, NameText, LeafValue, said, is_sign, name_of, Form, One, Table, Expr, Then, Or, May, Many, Parts, Either, Left, Right, Value}
-use Rattle.sql_form.specs.Grammar.{is_solid, first, continues, IsPlain, is_full, spared}
+use Rattle.sql_form.specs.Grammar.{counts, is_solid, first, continues, IsPlain, is_full, spared}
 use Rattle.sql_form.specs.Read.{taken, chosen, made, joined, named, tabled, many, limited, followed, listed, read}
 use Rattle.sql_form.proofs.BoolLemmas.{or_if_no}
 use Rattle.sql_form.proofs.Expressions.{expr_shorter}
@@ -121,7 +121,7 @@ within r (Or f g) p ts =
     (within_made Left true ts (read r f ts) (is_left (is_solid f) ts (read r f ts) p.2 (within r f p.0 ts))) (within_made Right true ts (read r g ts) (is_left (is_solid g) ts (read r g ts) p.3 (within r g p.1 ts)))
 within r (May f) p ts = within_chosen (first f (first_of ts).kind) false ts (made Some (read r f ts)) (Done None ts) (within_made Some false ts (read r f ts) (within_weak (is_solid f) ts (read r f ts) (within r f p.0 ts))) (omega arith, λ k. cc)
 within r (Many f) p ts = within_many (first f) (read r f) (λ us. is_left (is_solid f) us (read r f us) p.1 (within r f p.0 us)) (length ts) ts
-within r (Parts most counted part) p ts = within_listed r.parts (first counted) (read r part) (λ us. is_left (is_solid part) us (read r part us) p.1 (within r part p.0 us)) (suc (length ts)) most ts
+within r (Parts most every part) p ts = within_listed r.parts (counts every part) (read r part) (λ us. is_left (is_solid part) us (read r part us) p.1 (within r part p.0 us)) (suc (length ts)) most ts
 
 -- the end begins nothing, and nothing goes on with it
 pub first_end : (f : Form) → first f End ≡ false
@@ -132,7 +132,7 @@ first_end (Then f g) = rw (first_end f, first_end g) (or_if_no (is_solid f))
 first_end (Or f g) = rw (first_end f, first_end g) refl
 first_end (May f) = first_end f
 first_end (Many f) = first_end f
-first_end (Parts most counted part) = first_end part
+first_end (Parts most every part) = first_end part
 
 pub continues_end : (f : Form) → continues f End ≡ false
 continues_end (One leaf) = refl
@@ -142,7 +142,7 @@ continues_end (Then f g) = rw (continues_end f, continues_end g) (or_if_no (is_s
 continues_end (Or f g) = rw (continues_end f, continues_end g) refl
 continues_end (May f) = rw (first_end f, continues_end f) refl
 continues_end (Many f) = rw (first_end f, continues_end f) refl
-continues_end (Parts most counted part) = continues_end part
+continues_end (Parts most every part) = continues_end part
 
 -- a list of things that each take a token is the same read, however often more may come than tokens are left
 joined_same : {A B C : Type 0} (make : A → B → C) (ts : List Token) (g : Got A) (more others : List Token → Got B) → Within A true ts g → ((us : List Token) → length us < length ts → more us ≡ others us) → joined make g more ≡ joined make g others
@@ -195,16 +195,16 @@ listed_same must counts step w (suc often) (suc again) n ts lt gt =
     (λ x us less. followed_same (length us - 1) x us (listed must counts step often left) (listed must counts step again left) (omega arith) (λ vs le. listed_same must counts step w often again left vs (omega arith) (omega arith))))
 
 -- the parts of a list, of which so many may be counted
-abbrev pub parts_from : (r : Rules) (counted part : Form) → ℕ → List Token → Got (List (Value part))
-parts_from r counted part n ts = listed r.parts (first counted) (read r part) (suc (length ts)) n ts
+abbrev pub parts_from : (r : Rules) (every : Bool) (part : Form) → ℕ → List Token → Got (List (Value part))
+parts_from r every part n ts = listed r.parts (counts every part) (read r part) (suc (length ts)) n ts
 
 -- a part, and further ones behind a comma
-pub parts_on : (r : Rules) (counted part : Form) → IsPlain part → is_solid part ≡ true → (n : ℕ) (ts : List Token)
-    → parts_from r counted part n ts ≡ limited (is_full r.parts (first counted (first_of ts).kind) n) (first_of ts).at (and_then (read r part ts) (λ x us. followed x (parts_from r counted part (spared (first counted (first_of ts).kind) n)) us))
-parts_on r counted part p solid n ts =
+pub parts_on : (r : Rules) (every : Bool) (part : Form) → IsPlain part → is_solid part ≡ true → (n : ℕ) (ts : List Token)
+    → parts_from r every part n ts ≡ limited (is_full r.parts (counts every part (first_of ts).kind) n) (first_of ts).at (and_then (read r part ts) (λ x us. followed x (parts_from r every part (spared (counts every part (first_of ts).kind) n)) us))
+parts_on r every part p solid n ts =
     let w = λ (us : List Token). is_left (is_solid part) us (read r part us) solid (within r part p us) in
-    let left = spared (first counted (first_of ts).kind) n in
-    ap (λ g. limited (is_full r.parts (first counted (first_of ts).kind) n) (first_of ts).at g)
-    (then_same ts (read r part ts) (λ x us. followed x (listed r.parts (first counted) (read r part) (length ts) left) us) (λ x us. followed x (parts_from r counted part left) us) (w ts)
-    (λ x us less. followed_same (length us - 1) x us (listed r.parts (first counted) (read r part) (length ts) left) (parts_from r counted part left) (omega arith)
-    (λ vs le. listed_same r.parts (first counted) (read r part) w (length ts) (suc (length vs)) left vs (omega arith) (omega arith))))
+    let left = spared (counts every part (first_of ts).kind) n in
+    ap (λ g. limited (is_full r.parts (counts every part (first_of ts).kind) n) (first_of ts).at g)
+    (then_same ts (read r part ts) (λ x us. followed x (listed r.parts (counts every part) (read r part) (length ts) left) us) (λ x us. followed x (parts_from r every part left) us) (w ts)
+    (λ x us less. followed_same (length us - 1) x us (listed r.parts (counts every part) (read r part) (length ts) left) (parts_from r every part left) (omega arith)
+    (λ vs le. listed_same r.parts (counts every part) (read r part) w (length ts) (suc (length vs)) left vs (omega arith) (omega arith))))

@@ -125,8 +125,8 @@ pub data Form : Type 0 where
   May : (f : Form) → Form
   -- any number of times
   Many : (f : Form) → Form
-  -- part { , part }; of the parts that begin as `counted` does there are so many at most
-  Parts : (most : ℕ) (counted part : Form) → Form
+  -- part { , part }; there are so many at most of every part, or of those that begin with a name
+  Parts : (most : ℕ) (every : Bool) (part : Form) → Form
 
 -- one or the other
 pub data Either (A B : Type 0) : Type 0 where
@@ -142,4 +142,4 @@ Value (Then f g) = Value f × Value g
 Value (Or f g) = Either (Value f) (Value g)
 Value (May f) = Option (Value f)
 Value (Many f) = List (Value f)
-Value (Parts most counted part) = List (Value part)
+Value (Parts most every part) = List (Value part)

@@ -1,5 +1,5 @@
 -- Which tokens are of a form, and the value that they say.
-use Rattle.std.specs.Prelude.{◌≡◌, ℕ, zero, suc, ◌-◌, Bool, true, false, ◌||◌, List, [], ◌∷◌, ◌++◌, Option, Some, None, is_some}
+use Rattle.std.specs.Prelude.{◌≡◌, ℕ, zero, suc, ◌-◌, Bool, true, false, ◌&&◌, ◌||◌, List, [], ◌∷◌, ◌++◌, Option, Some, None, is_some}
 use Rattle.std.specs.Str.{bytes_eq}
 use Rattle.plain_model.specs.Tree.{Tree}
 use Rattle.sql_lex.specs.declared.context_word.ContextWord.TheVariants as place
@@ -54,7 +54,7 @@ is_solid (Then f g) = is_solid f || is_solid g
 is_solid (Or f g) = true
 is_solid (May f) = false
 is_solid (Many f) = false
-is_solid (Parts most counted part) = true
+is_solid (Parts most every part) = true
 
 -- a token with which it begins
 abbrev pub first : Form → TokenKind → Bool
@@ -65,7 +65,11 @@ first (Then f g) k = or_if (is_solid f) (first f k) (first g k)
 first (Or f g) k = first f k || first g k
 first (May f) k = first f k
 first (Many f) k = first f k
-first (Parts most counted part) k = first part k
+first (Parts most every part) k = first part k
+
+-- a token with which a part begins that is counted
+abbrev pub counts : Bool → Form → TokenKind → Bool
+counts every part k = first part k && (every || is_some (name_of k))
 
 -- a token with which it may go on where it could be over
 abbrev pub continues : Form → TokenKind → Bool
@@ -76,7 +80,7 @@ continues (Then f g) k = or_if (is_solid g) (continues g k) (continues f k)
 continues (Or f g) k = continues f k || continues g k
 continues (May f) k = first f k || continues f k
 continues (Many f) k = first f k || continues f k
-continues (Parts most counted part) k = is_sign mark.Comma k || continues part k
+continues (Parts most every part) k = is_sign mark.Comma k || continues part k
 
 -- one token tells how to go on
 abbrev pub IsPlain : Form → Type 0
@@ -87,7 +91,7 @@ IsPlain (Then f g) = IsPlain f × IsPlain g × ((k : TokenKind) → continues f 
 IsPlain (Or f g) = IsPlain f × IsPlain g × (is_solid f ≡ true) × (is_solid g ≡ true) × ((k : TokenKind) → first f k ≡ true → first g k ≡ true → ⊥)
 IsPlain (May f) = IsPlain f × (is_solid f ≡ true)
 IsPlain (Many f) = IsPlain f × (is_solid f ≡ true) × ((k : TokenKind) → continues f k ≡ true → first f k ≡ true → ⊥)
-IsPlain (Parts most counted part) = IsPlain part × (is_solid part ≡ true) × ((k : TokenKind) → continues part k ≡ true → is_sign mark.Comma k ≡ true → ⊥) × ((k : TokenKind) → first counted k ≡ true → first part k ≡ true)
+IsPlain (Parts most every part) = IsPlain part × (is_solid part ≡ true) × ((k : TokenKind) → continues part k ≡ true → is_sign mark.Comma k ≡ true → ⊥)
 
 -- a token is a name
 abbrev pub IsNamed : Token → List ℕ → Type 0
@@ -144,4 +148,4 @@ IsForm r (Then f g) x ts = (us : List Token) × (vs : List Token) × (ts ≡ us 
 IsForm r (Or f g) x ts = IsEither (IsForm r f) (IsForm r g) x ts
 IsForm r (May f) x ts = IsOption (IsForm r f) x ts
 IsForm r (Many f) x ts = AreMany (IsForm r f) x ts
-IsForm r (Parts most counted part) x ts = IsList (IsForm r part) r.parts (first counted) most x ts
+IsForm r (Parts most every part) x ts = IsList (IsForm r part) r.parts (counts every part) most x ts

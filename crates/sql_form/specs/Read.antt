@@ -11,7 +11,7 @@ use Rattle.sql_expr.specs.Got.{Got, Done, Refused, and_then}
 use Rattle.sql_expr.specs.Read.{got, reading}
 use Rattle.sql_form.specs.Rules.{Rules}
 use Rattle.sql_form.specs.Form.{said, is_sign, name_of, Form, One, Table, Expr, Then, Or, May, Many, Parts, Either, Left, Right, Value}
-use Rattle.sql_form.specs.Grammar.{first, is_full, spared}
+use Rattle.sql_form.specs.Grammar.{counts, first, is_full, spared}
 
 -- the first token is taken for what it says, or refused
 abbrev pub taken : {A : Type 0} → Option A → List Token → Got A
@@ -69,4 +69,4 @@ read r (Then f g) ts = joined (λ x y. (x, y)) (read r f ts) (read r g)
 read r (Or f g) ts = chosen (first f (first_of ts).kind) (made Left (read r f ts)) (made Right (read r g ts))
 read r (May f) ts = chosen (first f (first_of ts).kind) (made Some (read r f ts)) (Done None ts)
 read r (Many f) ts = many (first f) (read r f) (length ts) ts
-read r (Parts most counted part) ts = listed r.parts (first counted) (read r part) (suc (length ts)) most ts
+read r (Parts most every part) ts = listed r.parts (counts every part) (read r part) (suc (length ts)) most ts

@@ -6,6 +6,7 @@ ghost use Rattle.sql_expr.specs.Got.{Done, Refused};
 ghost use Rattle.sql_form.specs.Form.{Form, Value};
 ghost use Rattle.sql_form.specs.Grammar.{IsPlain, IsForm, continues};
 ghost use Rattle.sql_form.specs.Laws.{has_end, IsFront, IsRefused};
+ghost use Rattle.sql_form.specs.Plain.{is_plain};
 ghost use Rattle.sql_form.specs.Read.{read};
 ghost use Rattle.sql_form.specs.Rules.{Rules, Breach, strict};
 
@@ -22,4 +23,9 @@ pub fn what_is_of_a_form_is_read()
 /// What is refused is refused where the grammar, or one of its rules, leaves nothing of the form.
 pub fn what_is_refused_is_of_no_form()
     ensures { (f : Form) → IsPlain f → (ts : List Token) (at : ℕ) → has_end ts ≡ true → read strict f ts ≡ Refused at → (why : Breach) × IsRefused f ts why at }
+{}
+
+/// A form that passes the test is one of which one token tells how to go on.
+pub fn what_passes_the_test_is_plain()
+    ensures { (f : Form) → is_plain f ≡ true → IsPlain f }
 {}
