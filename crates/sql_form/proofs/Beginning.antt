@@ -1,14 +1,12 @@
 -- How the tokens of a form begin.
 use Rattle.std.specs.Prelude.{Option, Some, None, is_some}
-use Rattle.std.proofs.Common.{◌≡◌, ℕ, Bool, true, false, ◌||◌, List, [], ◌∷◌, ◌++◌, ap, sym, ◌∙◌, refl}
-use Rattle.sql_lex.specs.declared.token.Mark.TheVariants as mark
+use Rattle.std.proofs.Common.{◌≡◌, ℕ, Bool, true, false, ◌||◌, List, [], ◌∷◌, ◌++◌, sym, ◌∙◌, refl}
 use Rattle.sql_lex.specs.declared.token.Token.{Token}
 use Rattle.sql_lex.specs.declared.token.TokenKind.{TokenKind}
 use Rattle.sql_lex.specs.declared.token.TokenKind.TheVariants as kind
-use Rattle.sql_lex.specs.Ahead.{first_of}
-use Rattle.sql_form.specs.Rules.{Rules, strict, loose}
-use Rattle.sql_form.specs.Form.{Leaf, Key, Word, Sign, Nought, AnyName, AnyNumber, FileText, NameText, LeafValue, if_name, file_of, text_name_of, said, is_sign, name_of, Form, One, Table, Expr, Then, Or, May, Many, Parts, Either, Left, Right, Value}
-use Rattle.sql_form.specs.Grammar.{is_solid, first, or_if, continues, IsPlain, IsTable, alone, within, AreMany, AreParts, is_full, spared, IsList, IsForm}
+use Rattle.sql_form.specs.Rules.{Rules, loose}
+use Rattle.sql_form.specs.Form.{Leaf, Key, Word, Sign, Nought, AnyName, AnyNumber, FileText, NameText, LeafValue, if_name, file_of, text_name_of, said, Form, One, Table, Expr, Then, Or, May, Many, Parts, Left, Right, Value}
+use Rattle.sql_form.specs.Grammar.{is_solid, first, or_if, IsPlain, alone, within, IsForm}
 use Rattle.sql_form.proofs.BoolLemmas.{or_if_left, or_if_right, either_is, or_is, true_not}
 use Rattle.sql_form.proofs.Expressions.{no_expr, expr_begins}
 

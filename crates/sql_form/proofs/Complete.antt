@@ -1,18 +1,16 @@
 -- What is of a form is read, whatever stands behind it that doesn't go on with it.
-use Rattle.std.specs.Prelude.{Option, Some, None, ◌&&◌}
-use Rattle.std.specs.Str.{bytes_eq}
-use Rattle.std.proofs.Common.{◌≡◌, ℕ, Bool, true, false, ◌||◌, List, [], ◌∷◌, ◌++◌, ap, sym, ◌∙◌, refl, append_assoc}
+use Rattle.std.specs.Prelude.{Some, None, ◌&&◌}
+use Rattle.std.proofs.Common.{◌≡◌, ℕ, Bool, true, false, ◌||◌, List, [], ◌∷◌, ◌++◌, ap, ◌∙◌, refl, append_assoc}
 use Rattle.sql_lex.specs.declared.token.Mark.TheVariants as mark
 use Rattle.sql_lex.specs.declared.token.Token.{Token}
 use Rattle.sql_lex.specs.declared.token.TokenKind.{TokenKind}
-use Rattle.sql_lex.specs.Ahead.{first_of, behind_first}
-use Rattle.sql_expr.specs.Got.{Got, Done, Refused, and_then}
+use Rattle.sql_expr.specs.Got.{Got, Done, and_then}
 use Rattle.sql_expr.specs.Read.{got}
 use Rattle.sql_expr.proofs.LawLemmas.{completely}
 use Rattle.sql_form.specs.Rules.{Rules}
-use Rattle.sql_form.specs.Form.{is_sign, name_of, Form, One, Table, Expr, Then, Or, May, Many, Parts, Either, Left, Right, Value}
-use Rattle.sql_form.specs.Grammar.{counts, is_solid, first, or_if, continues, IsPlain, IsTable, alone, within, AreMany, AreParts, is_full, spared, IsForm}
-use Rattle.sql_form.specs.Read.{taken, chosen, made, joined, limited, followed, read}
+use Rattle.sql_form.specs.Form.{is_sign, Form, One, Table, Expr, Then, Or, May, Many, Parts, Left, Right, Value}
+use Rattle.sql_form.specs.Grammar.{counts, is_solid, first, continues, IsPlain, alone, within, AreMany, AreParts, is_full, spared, IsForm}
+use Rattle.sql_form.specs.Read.{chosen, made, joined, limited, followed, read}
 use Rattle.sql_form.proofs.BoolLemmas.{or_if_not, or_if_other, either_left, either_right, not_true, true_not}
 use Rattle.sql_form.proofs.Beginning.{none_needed, begins}
 use Rattle.sql_form.proofs.Shorter.{many_on, parts_from, parts_on}

@@ -1,6 +1,6 @@
 -- How expressions begin, and that reading one takes a token.
 use Rattle.std.specs.Prelude.{Option, Some, None, not}
-use Rattle.std.proofs.Common.{◌≡◌, ℕ, suc, zero, ◌+◌, ◌-◌, ◌≤◌, ◌<◌, Bool, true, false, List, [], ◌∷◌, ◌++◌, length, length-append, ap, sym, ◌∙◌, refl, arith}
+use Rattle.std.proofs.Common.{◌≡◌, ℕ, suc, zero, ◌+◌, ◌-◌, ◌<◌, Bool, true, false, List, [], ◌∷◌, ◌++◌, length, length-append, ap, sym, ◌∙◌, refl, arith}
 use Rattle.plain_model.specs.Tree.{Tree, Entries}
 use Rattle.plain_model.specs.Shape.{operators}
 use Rattle.plain_model.specs.declared.expr.MathOp.TheVariants.{Sub}
@@ -17,13 +17,13 @@ use Rattle.sql_expr.specs.declared.role.Role.TheVariants as role
 use Rattle.sql_expr.specs.declared.role.Level.{Level}
 use Rattle.sql_expr.specs.declared.role.Level.TheVariants.{Ors, Ands, Nots, Comps, Sums, Prods}
 use Rattle.sql_expr.specs.Rules.{Rules, loose}
-use Rattle.sql_expr.specs.Got.{Got, Done, Refused}
+use Rattle.sql_expr.specs.Got.{Done}
 use Rattle.sql_expr.specs.Grammar.{IsExpr, one, brackets, minus, negation, onward, Follows, nothing, chain, compare, is_null, between, within, AreEntries, last, more, IsWhole}
 use Rattle.sql_expr.specs.Roles.{word_role, mark_role, kind_role, role_of, null_of, leaf}
 use Rattle.sql_expr.specs.Symbols.{Part, part, Symbol, Whole, May, Judge}
 use Rattle.sql_expr.specs.Table.{Step, Stuck, Take, Leave, Action, at_leaf, start_unary, start_not, start}
 use Rattle.sql_expr.specs.Machine.{Fault, CantStand, TooDeep, TooMany, Next, Go, Over, Refuse, only_if, judged, opened, counted, stepped, carried_out, feed}
-use Rattle.sql_expr.specs.Read.{Outcome, Open, Ended, Stopped, run, no_part, whole, reading, got}
+use Rattle.sql_expr.specs.Read.{Outcome, Open, Ended, Stopped, no_part, whole, reading, got}
 use Rattle.sql_expr.specs.Laws.{place, Begins}
 use Rattle.sql_expr.proofs.Lists.{has, has_some}
 use Rattle.sql_expr.proofs.Viable.{end_token, no_kinds, no_levels}

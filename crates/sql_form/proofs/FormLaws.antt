@@ -1,8 +1,7 @@
 -- The laws of reading forms.
-use Rattle.std.proofs.Common.{◌≡◌, ℕ, Bool, true, false, List, [], ◌∷◌, ◌++◌, length, ap, sym, ◌∙◌, refl, append_assoc, arith}
+use Rattle.std.proofs.Common.{◌≡◌, ℕ, true, List, [], ◌∷◌, ◌++◌, length, ap, sym, ◌∙◌, refl, append_assoc, arith}
 use Rattle.sql_lex.specs.declared.token.Token.{Token}
-use Rattle.sql_lex.specs.Ahead.{first_of}
-use Rattle.sql_expr.specs.Got.{Got, Done, Refused}
+use Rattle.sql_expr.specs.Got.{Done, Refused}
 use Rattle.sql_expr.proofs.Viable.{end_token}
 use Rattle.sql_form.specs.Rules.{Rules, strict, loose, Breach, rules_of}
 use Rattle.sql_form.specs.Form.{Form, One, Table, Expr, Then, Or, May, Many, Parts, Value}
@@ -12,7 +11,7 @@ use Rattle.sql_form.specs.Laws.{has_end, Begins, IsFront, IsRefused}
 use Rattle.sql_form.proofs.Complete.{complete}
 use Rattle.sql_form.proofs.Shorter.{continues_end}
 use Rattle.sql_form.proofs.Samples.{Begun}
-use Rattle.sql_form.proofs.Told.{Reached, Halted, Told, reached_split}
+use Rattle.sql_form.proofs.Told.{Reached, Halted, reached_split}
 use Rattle.sql_form.proofs.ToldLeaves.{told_one, told_table, told_expr}
 use Rattle.sql_form.proofs.ToldForms.{Tells, tells_then, tells_or, tells_may, tells_many}
 use Rattle.sql_form.proofs.ToldParts.{counts_first, tells_parts}

@@ -10,3 +10,5 @@ pub mod ToldForms
 pub mod ToldParts
 pub mod FormLaws
 pub mod PlainLemmas
+pub mod WholeLemmas
+pub mod Batches

@@ -1,12 +1,11 @@
 -- Something is of each form where no rules hold, and what keeps rules is of the form without them.
 use Rattle.std.specs.Prelude.{Option, Some, None, is_some, pos, codes}
-use Rattle.std.proofs.Common.{◌≡◌, ℕ, Bool, true, false, ◌||◌, List, [], ◌∷◌, ◌++◌, ap, sym, ◌∙◌, refl, append_assoc, append-nil}
-use Rattle.sql_lex.specs.declared.token.Mark.TheVariants as mark
+use Rattle.std.proofs.Common.{◌≡◌, ℕ, Bool, true, false, ◌||◌, List, [], ◌∷◌, ◌++◌, sym, refl, append_assoc, append-nil}
 use Rattle.sql_lex.specs.declared.token.Token.{Token}
 use Rattle.sql_lex.specs.declared.token.TokenKind.{TokenKind}
 use Rattle.sql_lex.specs.declared.token.TokenKind.TheVariants as kind
 use Rattle.sql_lex.specs.Ahead.{first_of}
-use Rattle.sql_lex.specs.Words.{text_of, letters_of, sign_of, is_same, is_same_mark}
+use Rattle.sql_lex.specs.Words.{text_of, letters_of, sign_of}
 use Rattle.std.specs.Str.{bytes_eq}
 use Rattle.std.proofs.lemmas.Slice.Eq.{bytes_eq-Decides}
 use Rattle.sql_expr.specs.Read.{no_part, whole}
@@ -14,10 +13,9 @@ use Rattle.sql_expr.specs.Rules as expr
 use Rattle.sql_expr.specs.Laws as expr_laws
 use Rattle.sql_expr.proofs.LawLemmas.{front_begins}
 use Rattle.sql_expr.proofs.Viable.{mark_token}
-use Rattle.sql_form.specs.Rules.{Rules, strict, loose}
-use Rattle.sql_form.specs.Form.{Leaf, Key, Word, Sign, Nought, AnyName, AnyNumber, FileText, NameText, LeafValue, said, is_sign, name_of, Form, One, Table, Expr, Then, Or, May, Many, Parts, Either, Left, Right, Value}
-use Rattle.sql_form.specs.Grammar.{counts, is_solid, first, or_if, continues, IsPlain, IsTable, alone, within, AreMany, AreParts, is_full, spared, IsList, IsForm}
-use Rattle.sql_form.proofs.BoolLemmas.{or_if_not}
+use Rattle.sql_form.specs.Rules.{Rules, loose}
+use Rattle.sql_form.specs.Form.{Leaf, Key, Word, Sign, Nought, AnyName, AnyNumber, FileText, NameText, LeafValue, said, name_of, Form, One, Table, Expr, Then, Or, May, Many, Parts, Left, Right, Value}
+use Rattle.sql_form.specs.Grammar.{counts, is_solid, first, or_if, alone, AreMany, AreParts, spared, IsForm}
 use Rattle.sql_form.proofs.Expressions.{start_begins, loose_whole}
 use Rattle.sql_form.proofs.Beginning.{looser_said}
 

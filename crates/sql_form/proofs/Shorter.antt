@@ -1,6 +1,6 @@
 -- Reading leaves no more tokens than there were, and so what is read as often as it stands there is read to its end.
 use Rattle.std.specs.Prelude.{Option, Some, None, is_some}
-use Rattle.std.proofs.Common.{◌≡◌, ℕ, suc, zero, ◌+◌, ◌-◌, ◌≤◌, ◌<◌, Bool, true, false, ◌||◌, List, [], ◌∷◌, ◌++◌, length, ap, sym, ◌∙◌, refl, arith}
+use Rattle.std.proofs.Common.{◌≡◌, ℕ, suc, zero, ◌-◌, ◌≤◌, ◌<◌, Bool, true, false, ◌||◌, List, [], ◌∷◌, length, ap, ◌∙◌, refl, arith}
 use Rattle.plain_model.specs.Tree.{Tree}
 use Rattle.sql_lex.specs.declared.token.Mark.TheVariants as mark
 use Rattle.sql_lex.specs.declared.token.Token.{Token}
@@ -10,7 +10,7 @@ use Rattle.sql_lex.specs.Ahead.{first_of, behind_first}
 use Rattle.sql_expr.specs.Got.{Got, Done, Refused, and_then}
 use Rattle.sql_expr.specs.Read.{reading, got}
 use Rattle.sql_form.specs.Rules.{Rules, loose}
-use Rattle.sql_form.specs.Form.{Leaf, Key, Word, Sign, Nought, AnyName, AnyNumber, FileText, NameText, LeafValue, said, is_sign, name_of, Form, One, Table, Expr, Then, Or, May, Many, Parts, Either, Left, Right, Value}
+use Rattle.sql_form.specs.Form.{Leaf, Key, Word, Sign, Nought, AnyName, AnyNumber, FileText, NameText, LeafValue, said, is_sign, name_of, Form, One, Table, Expr, Then, Or, May, Many, Parts, Left, Right, Value}
 use Rattle.sql_form.specs.Grammar.{counts, is_solid, first, continues, IsPlain, is_full, spared}
 use Rattle.sql_form.specs.Read.{taken, chosen, made, joined, named, tabled, many, limited, followed, listed, read}
 use Rattle.sql_form.proofs.BoolLemmas.{or_if_no}

@@ -1,12 +1,10 @@
 -- What a reading tells of the tokens that it looked at, whatever stands behind them.
-use Rattle.std.specs.Prelude.{Option, Some, None}
-use Rattle.std.proofs.Common.{◌≡◌, ℕ, suc, zero, ◌+◌, ◌≤◌, ◌<◌, Bool, true, false, ◌||◌, List, [], ◌∷◌, ◌++◌, length, ap, sym, ◌∙◌, refl, append_assoc}
+use Rattle.std.proofs.Common.{◌≡◌, ℕ, true, List, [], ◌∷◌, ◌++◌, ap, sym, ◌∙◌, refl, append_assoc}
 use Rattle.sql_lex.specs.declared.token.Token.{Token}
 use Rattle.sql_expr.specs.Got.{Got, Done, Refused}
-use Rattle.sql_expr.specs.Machine.{Fault, CantStand, WrongKind, TooDeep, TooMany}
-use Rattle.sql_expr.specs.Laws.{IsPart}
-use Rattle.sql_form.specs.Rules.{Rules, strict, loose, Breach, OfForm, OfExpr, OfParts, OfText, rules_of, is_freed}
-use Rattle.sql_form.specs.Read.{chosen, made, joined}
+use Rattle.sql_expr.specs.Machine.{CantStand, WrongKind, TooDeep, TooMany}
+use Rattle.sql_form.specs.Rules.{Rules, strict, Breach, OfForm, OfExpr, OfParts, OfText, rules_of, is_freed}
+use Rattle.sql_form.specs.Read.{made, joined}
 use Rattle.sql_form.specs.Laws.{has_end, IsPlace}
 use Rattle.sql_form.proofs.Complete.{joined_done, made_done}
 use Rattle.sql_form.proofs.Samples.{Begun}

@@ -1,25 +1,19 @@
 -- What reading a form tells: once for all forms.
-use Rattle.std.specs.Prelude.{Option, Some, None}
-use Rattle.std.proofs.Common.{◌≡◌, ℕ, suc, zero, ◌+◌, ◌≤◌, ◌<◌, Bool, true, false, ◌||◌, List, [], ◌∷◌, ◌++◌, length, length-append, ap, sym, ◌∙◌, refl, append_assoc, append-nil, arith}
-use Rattle.sql_lex.specs.declared.token.Mark.TheVariants as mark
+use Rattle.std.specs.Prelude.{Some, None}
+use Rattle.std.proofs.Common.{◌≡◌, ℕ, suc, zero, ◌+◌, ◌≤◌, ◌<◌, Bool, true, false, List, [], ◌∷◌, ◌++◌, length, length-append, ap, ◌∙◌, refl, arith}
 use Rattle.sql_lex.specs.declared.token.Token.{Token}
-use Rattle.sql_lex.specs.declared.token.TokenKind.{TokenKind}
-use Rattle.sql_lex.specs.declared.token.TokenKind.TheVariants as kind
-use Rattle.sql_lex.specs.Ahead.{first_of, behind_first}
-use Rattle.sql_lex.specs.Tokens.{is_end}
-use Rattle.sql_expr.specs.Got.{Got, Done, Refused, and_then}
-use Rattle.sql_form.specs.Rules.{Rules, strict, loose, Breach, OfForm, OfExpr, OfParts, OfText, rules_of, is_freed}
-use Rattle.sql_form.specs.Form.{is_sign, Form, One, Table, Expr, Then, Or, May, Many, Parts, Either, Left, Right, Value}
-use Rattle.sql_form.specs.Grammar.{is_solid, first, continues, IsPlain, AreMany, AreParts, is_full, spared, IsList, IsForm}
-use Rattle.sql_form.specs.Read.{chosen, made, joined, limited, followed, read}
-use Rattle.sql_form.specs.Laws.{has_end, IsPlace}
+use Rattle.sql_expr.specs.Got.{Got, Done}
+use Rattle.sql_form.specs.Rules.{strict, loose}
+use Rattle.sql_form.specs.Form.{Form, Then, Or, May, Many, Left, Right, Value}
+use Rattle.sql_form.specs.Grammar.{is_solid, first, IsPlain, IsForm}
+use Rattle.sql_form.specs.Read.{chosen, made, joined, read}
+use Rattle.sql_form.specs.Laws.{has_end}
 use Rattle.sql_form.proofs.BoolLemmas.{true_not}
-use Rattle.sql_form.proofs.Beginning.{none_needed, begins}
-use Rattle.sql_form.proofs.Complete.{chosen_left, chosen_right, part_on, made_done}
-use Rattle.sql_form.proofs.Samples.{Begun, sample, begun, loosened}
-use Rattle.sql_form.proofs.Shorter.{many_on, parts_from, parts_on}
-use Rattle.sql_form.proofs.Told.{Reached, Halted, Told, same_start, told_made, told_alike, told_joined, joins_split, reached_split, reached_again}
-use Rattle.sql_form.proofs.ToldLeaves.{some_first, end_behind, told_one, told_table, told_expr}
+use Rattle.sql_form.proofs.Beginning.{none_needed}
+use Rattle.sql_form.proofs.Complete.{chosen_left, chosen_right}
+use Rattle.sql_form.proofs.Samples.{sample, loosened}
+use Rattle.sql_form.proofs.Shorter.{many_on}
+use Rattle.sql_form.proofs.Told.{Told, told_made, told_alike, told_joined, reached_split}
 
 -- what reading this form tells of these tokens
 abbrev pub Tells : Form → List Token → Type 0

@@ -1,7 +1,7 @@
 -- What reading one token, a table or an expression tells.
 use Rattle.std.specs.Prelude.{Option, Some, None, ◌&&◌, codes}
 use Rattle.std.specs.Str.{bytes_eq}
-use Rattle.std.proofs.Common.{◌≡◌, ℕ, Bool, true, false, ◌||◌, List, [], ◌∷◌, ◌++◌, ap, sym, ◌∙◌, refl, append_assoc}
+use Rattle.std.proofs.Common.{◌≡◌, ℕ, Bool, true, false, ◌||◌, List, [], ◌∷◌, ◌++◌, ap, sym, ◌∙◌, refl}
 use Rattle.std.proofs.lemmas.List.{append_cancel_right}
 use Rattle.std.proofs.lemmas.Slice.Eq.{bytes_eq-Decides}
 use Rattle.plain_model.specs.Tree.{Tree}
@@ -10,30 +10,29 @@ use Rattle.sql_lex.specs.declared.token.Mark.TheVariants as mark
 use Rattle.sql_lex.specs.declared.token.Token.{Token}
 use Rattle.sql_lex.specs.declared.token.TokenKind.{TokenKind}
 use Rattle.sql_lex.specs.declared.token.TokenKind.TheVariants as kind
-use Rattle.sql_lex.specs.Ahead.{first_of, behind_first}
 use Rattle.sql_lex.specs.Tokens.{is_end}
 use Rattle.sql_lex.specs.Words.{letters_of}
 use Rattle.sql_expr.specs.declared.role.Role.TheVariants as role
 use Rattle.sql_expr.specs.Got.{Got, Done, Refused, and_then}
 use Rattle.sql_expr.specs.Read.{Outcome, Open, Ended, Stopped, go_on, run, no_part, whole, reading, got}
 use Rattle.sql_expr.specs.Symbols.{Part, Symbol}
-use Rattle.sql_expr.specs.Machine.{Fault, CantStand, WrongKind, TooDeep, TooMany, Next, Over, Refuse, feed}
+use Rattle.sql_expr.specs.Machine.{Fault, CantStand, WrongKind, TooDeep, TooMany}
 use Rattle.sql_expr.specs.Roles.{kind_role, role_of}
 use Rattle.sql_expr.specs.Laws as expr
 use Rattle.sql_expr.specs.Rules as expr_rules
 use Rattle.sql_expr.proofs.Agreement.{agree_feed}
 use Rattle.sql_expr.proofs.Answering.{NotOpen, not_open}
 use Rattle.sql_expr.proofs.Viable.{mark_token}
-use Rattle.sql_expr.proofs.LawLemmas.{Halts, stopped, Finishes, ended, run_append, same_run, front_begins, unlimited_begins, placed_feed, place_of, holds_broken, front_is}
-use Rattle.sql_form.specs.Rules.{Rules, strict, loose, Breach, OfForm, OfExpr, OfParts, OfText, rules_of, is_freed}
-use Rattle.sql_form.specs.Form.{Leaf, Key, Word, Sign, Nought, AnyName, AnyNumber, FileText, NameText, LeafValue, file_of, text_name_of, said, is_sign, name_of, Form, One, Table, Expr, Value}
-use Rattle.sql_form.specs.Grammar.{IsTable, alone, within, IsForm}
+use Rattle.sql_expr.proofs.LawLemmas.{stopped, ended, run_append, same_run, front_begins, unlimited_begins, placed_feed, place_of, holds_broken, front_is}
+use Rattle.sql_form.specs.Rules.{Rules, strict, loose, OfForm, OfExpr, OfText, rules_of}
+use Rattle.sql_form.specs.Form.{Leaf, Key, Word, Sign, Nought, AnyName, AnyNumber, FileText, NameText, LeafValue, file_of, text_name_of, said, is_sign, name_of, One, Table, Expr}
+use Rattle.sql_form.specs.Grammar.{alone, within, IsForm}
 use Rattle.sql_form.specs.Read.{taken, chosen, named, tabled, read}
 use Rattle.sql_form.specs.Laws.{has_end, IsPlace}
 use Rattle.sql_form.proofs.Shorter.{said_end}
 use Rattle.sql_form.proofs.Beginning.{looser_said}
 use Rattle.sql_form.proofs.Samples.{Begun, sample}
-use Rattle.sql_form.proofs.Told.{Reached, Halted, Told}
+use Rattle.sql_form.proofs.Told.{Halted, Told}
 
 -- tokens with an end have a first one
 pub record HasFirst (ts : List Token) : Type 0 where

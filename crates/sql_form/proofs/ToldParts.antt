@@ -1,24 +1,23 @@
 -- What reading a list parted by commas tells.
-use Rattle.std.specs.Prelude.{Option, Some, None, is_some, ◌&&◌}
-use Rattle.std.proofs.Common.{◌≡◌, ℕ, suc, zero, ◌+◌, ◌≤◌, ◌<◌, Bool, true, false, ◌||◌, List, [], ◌∷◌, ◌++◌, length, ap, sym, ◌∙◌, refl, append_assoc, arith}
+use Rattle.std.specs.Prelude.{is_some, ◌&&◌}
+use Rattle.std.proofs.Common.{◌≡◌, ℕ, suc, zero, ◌≤◌, ◌<◌, Bool, true, false, ◌||◌, List, [], ◌∷◌, ◌++◌, length, ap, ◌∙◌, refl, append_assoc, arith}
 use Rattle.sql_lex.specs.declared.token.Mark.TheVariants as mark
 use Rattle.sql_lex.specs.declared.token.Token.{Token}
 use Rattle.sql_lex.specs.declared.token.TokenKind.{TokenKind}
 use Rattle.sql_lex.specs.declared.token.TokenKind.TheVariants as kind
-use Rattle.sql_lex.specs.Ahead.{first_of, behind_first}
+use Rattle.sql_lex.specs.Ahead.{first_of}
 use Rattle.sql_lex.specs.Tokens.{is_end}
 use Rattle.sql_expr.specs.Got.{Got, Done, Refused, and_then}
-use Rattle.sql_form.specs.Rules.{Rules, strict, loose, Breach, OfForm, OfExpr, OfParts, OfText, rules_of, is_freed}
+use Rattle.sql_form.specs.Rules.{Rules, strict, loose, OfParts, rules_of}
 use Rattle.sql_form.specs.Form.{is_sign, name_of, Form, Value}
-use Rattle.sql_form.specs.Grammar.{counts, is_solid, first, IsPlain, AreParts, is_full, spared, IsList, IsForm}
+use Rattle.sql_form.specs.Grammar.{counts, is_solid, first, IsPlain, is_full, spared, IsList, IsForm}
 use Rattle.sql_form.specs.Read.{chosen, made, limited, followed, read}
-use Rattle.sql_form.specs.Laws.{has_end, IsPlace}
+use Rattle.sql_form.specs.Laws.{has_end}
 use Rattle.sql_form.proofs.BoolLemmas.{true_not}
 use Rattle.sql_form.proofs.Beginning.{none_needed}
-use Rattle.sql_form.proofs.Complete.{part_on}
-use Rattle.sql_form.proofs.Samples.{Begun, sample, begun, loosened}
+use Rattle.sql_form.proofs.Samples.{sample, begun, loosened}
 use Rattle.sql_form.proofs.Shorter.{parts_from, parts_on}
-use Rattle.sql_form.proofs.Told.{Reached, Halted, Told, told_alike, further, joins_split, reached_split, reached_again}
+use Rattle.sql_form.proofs.Told.{Reached, Told, told_alike, further, joins_split, reached_split, reached_again}
 use Rattle.sql_form.proofs.ToldLeaves.{some_first, end_behind}
 use Rattle.sql_form.proofs.ToldForms.{Tells, fewer}
 

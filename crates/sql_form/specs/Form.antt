@@ -1,22 +1,17 @@
 -- Forms of statements: what stands one behind the other, which parts may come, and which may come again.
-use Rattle.std.specs.Prelude.{◌≡◌, ℕ, zero, suc, ◌-◌, ◌==◌, Bool, true, false, ◌&&◌, ◌||◌, not, List, [], ◌∷◌, ◌++◌, map, ℤ, pos, negsuc, Option, Some, None}
+use Rattle.std.specs.Prelude.{ℕ, ◌==◌, Bool, true, false, List, map, ℤ, pos, negsuc, Option, Some, None}
 use Rattle.std.specs.Str.{bytes_eq}
 use Rattle.std.specs.Char.{to_ascii_lowercase}
 use Rattle.page_base.specs.FileName.{last_part}
 use Rattle.plain_model.specs.Tree.{Tree}
 use Rattle.sql_lex.specs.declared.context_word.ContextWord.{ContextWord}
-use Rattle.sql_lex.specs.declared.context_word.ContextWord.TheVariants as place
 use Rattle.sql_lex.specs.declared.keyword.Keyword.{Keyword}
 use Rattle.sql_lex.specs.declared.token.Mark.{Mark}
-use Rattle.sql_lex.specs.declared.token.Mark.TheVariants as mark
-use Rattle.sql_lex.specs.declared.token.Token.{Token}
 use Rattle.sql_lex.specs.declared.token.TokenKind.{TokenKind}
 use Rattle.sql_lex.specs.declared.token.TokenKind.TheVariants as kind
-use Rattle.sql_lex.specs.Ahead.{first_of}
 use Rattle.sql_lex.specs.Texts.{is_file_name, is_name}
 use Rattle.sql_lex.specs.Words.{is_same, is_same_mark, letters_of}
-use Rattle.sql_expr.specs.Grammar.{IsWhole}
-use Rattle.sql_form.specs.Rules.{Rules, loose}
+use Rattle.sql_form.specs.Rules.{Rules}
 
 -- what one token is
 pub data Leaf : Type 0 where

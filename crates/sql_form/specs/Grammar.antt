@@ -1,7 +1,5 @@
 -- Which tokens are of a form, and the value that they say.
-use Rattle.std.specs.Prelude.{◌≡◌, ℕ, zero, suc, ◌-◌, Bool, true, false, ◌&&◌, ◌||◌, List, [], ◌∷◌, ◌++◌, Option, Some, None, is_some}
-use Rattle.std.specs.Str.{bytes_eq}
-use Rattle.plain_model.specs.Tree.{Tree}
+use Rattle.std.specs.Prelude.{◌≡◌, ℕ, zero, ◌-◌, Bool, true, false, ◌&&◌, ◌||◌, List, [], ◌∷◌, ◌++◌, Option, Some, None, is_some}
 use Rattle.sql_lex.specs.declared.context_word.ContextWord.TheVariants as place
 use Rattle.sql_lex.specs.declared.token.Mark.TheVariants as mark
 use Rattle.sql_lex.specs.declared.token.Token.{Token}
@@ -16,7 +14,7 @@ use Rattle.sql_expr.specs.Grammar.{IsWhole}
 use Rattle.sql_expr.specs.Roles.{word_role, mark_role, kind_role}
 use Rattle.sql_expr.specs.Laws.{goes_on}
 use Rattle.sql_form.specs.Rules.{Rules, loose}
-use Rattle.sql_form.specs.Form.{Leaf, said, is_sign, name_of, Form, One, Table, Expr, Then, Or, May, Many, Parts, Either, Left, Right, Value}
+use Rattle.sql_form.specs.Form.{said, is_sign, name_of, Form, One, Table, Expr, Then, Or, May, Many, Parts, Either, Left, Right, Value}
 
 -- a word with which an expression begins
 abbrev pub word_starts : Role → Bool

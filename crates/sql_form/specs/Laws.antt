@@ -2,10 +2,9 @@
 use Rattle.std.specs.Prelude.{◌≡◌, ℕ, Bool, true, false, ◌||◌, List, [], ◌∷◌, ◌++◌}
 use Rattle.sql_lex.specs.declared.token.Token.{Token}
 use Rattle.sql_lex.specs.Tokens.{is_end}
-use Rattle.sql_lex.specs.Ahead.{first_of}
-use Rattle.sql_expr.specs.Machine.{Fault, WrongKind}
+use Rattle.sql_expr.specs.Machine.{WrongKind}
 use Rattle.sql_expr.specs.Laws.{IsPart}
-use Rattle.sql_form.specs.Rules.{Rules, strict, loose, Breach, OfForm, OfExpr, OfParts, OfText, rules_of, is_freed}
+use Rattle.sql_form.specs.Rules.{Rules, strict, loose, Breach, OfExpr, rules_of, is_freed}
 use Rattle.sql_form.specs.Form.{Form, Value}
 use Rattle.sql_form.specs.Grammar.{IsForm}
 
@@ -43,3 +42,12 @@ pub record IsRefused (f : Form) (ts : List Token) (why : Breach) (at : ℕ) : Ty
   pub before : Begins loose f front
   pub none : Begins (rules_of why) f (front ++ token ∷ []) → ⊥
   pub freed : is_freed why ≡ true → Begins loose f (front ++ token ∷ [])
+
+-- all tokens before the end are of the form, and say this
+pub record IsAll (f : Form) (ts : List Token) (value : Value f) : Type 0 where
+  pub front : List Token
+  pub last : Token
+  pub others : List Token
+  pub split : ts ≡ front ++ last ∷ others
+  pub ends : is_end last.kind ≡ true
+  pub is : IsForm strict f value front

@@ -1,6 +1,6 @@
 -- A test of whether one token tells how to go on, from the classes of tokens with which forms begin and go on.
-use Rattle.std.specs.Prelude.{ℕ, Bool, true, false, ◌&&◌, not, List, [], ◌∷◌, ◌++◌}
-use Rattle.std.specs.List.{list_all, list_any}
+use Rattle.std.specs.Prelude.{Bool, true, false, ◌&&◌, not, List, [], ◌∷◌, ◌++◌}
+use Rattle.std.specs.List.{list_all}
 use Rattle.sql_lex.specs.declared.keyword.Keyword.{Keyword}
 use Rattle.sql_lex.specs.declared.keyword.Keyword.TheVariants as word
 use Rattle.sql_lex.specs.declared.token.Mark.{Mark}
@@ -45,7 +45,7 @@ are_apart cs ds = list_all (λ c. list_all (λ d. not (meet c d)) ds) cs
 -- the class of one token
 abbrev pub class_of : Leaf → Class
 class_of (Key word) = OfKey word
-class_of (Word word) = OfNames
+class_of (Word wanted) = OfNames
 class_of (Sign mark) = OfSign mark
 class_of Nought = OfNumbers
 class_of AnyName = OfNames

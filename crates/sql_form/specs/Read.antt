@@ -9,8 +9,9 @@ use Rattle.sql_lex.specs.Ahead.{first_of, behind_first}
 use Rattle.sql_lex.specs.Words.{letters_of}
 use Rattle.sql_expr.specs.Got.{Got, Done, Refused, and_then}
 use Rattle.sql_expr.specs.Read.{got, reading}
-use Rattle.sql_form.specs.Rules.{Rules}
-use Rattle.sql_form.specs.Form.{said, is_sign, name_of, Form, One, Table, Expr, Then, Or, May, Many, Parts, Either, Left, Right, Value}
+use Rattle.sql_lex.specs.Tokens.{is_end}
+use Rattle.sql_form.specs.Rules.{Rules, strict}
+use Rattle.sql_form.specs.Form.{said, is_sign, name_of, Form, One, Table, Expr, Then, Or, May, Many, Parts, Left, Right, Value}
 use Rattle.sql_form.specs.Grammar.{counts, first, is_full, spared}
 
 -- the first token is taken for what it says, or refused
@@ -70,3 +71,12 @@ read r (Or f g) ts = chosen (first f (first_of ts).kind) (made Left (read r f ts
 read r (May f) ts = chosen (first f (first_of ts).kind) (made Some (read r f ts)) (Done None ts)
 read r (Many f) ts = many (first f) (read r f) (length ts) ts
 read r (Parts most every part) ts = listed r.parts (counts every part) (read r part) (suc (length ts)) most ts
+
+-- nothing but the end may stand behind what was read
+abbrev pub closed : {A : Type 0} → Got A → Got A
+closed (Done x rest) = chosen (is_end (first_of rest).kind) (Done x rest) (Refused (first_of rest).at)
+closed (Refused at) = Refused at
+
+-- all that stands before the end, which must be of the form
+abbrev pub read_whole : (f : Form) → List Token → Got (Value f)
+read_whole f ts = closed (read strict f ts)

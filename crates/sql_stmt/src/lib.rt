@@ -1,0 +1,4 @@
+//! Reads the statements of a batch, one at a time.
+#![tactic(auto)]
+
+mod take;
