@@ -1,2 +1,5 @@
 pub mod Statements
 pub mod Gives
+pub mod Said
+pub mod Lists
+pub mod Parts

@@ -1,5 +1,5 @@
 -- The grammar of statements, one form for each production.
-use Rattle.std.specs.Prelude.{true, false}
+use Rattle.std.specs.Prelude.{Bool, true, false}
 use Rattle.sql_lex.specs.declared.context_word.ContextWord.{ContextWord}
 use Rattle.sql_lex.specs.declared.context_word.ContextWord.TheVariants as place
 use Rattle.sql_lex.specs.declared.keyword.Keyword.{Keyword}
@@ -22,19 +22,23 @@ sign mark = One (Sign mark)
 abbrev pub name : Form
 name = One AnyName
 
--- a value, in which names of columns may stand; one without; and a truth
-abbrev pub value : Form
-value = Expr true false
+-- a value, in which names of columns may stand or not
+abbrev pub value_with : Bool → Form
+value_with names = Expr names false
 
+abbrev pub value : Form
+value = value_with true
+
+-- an entry of VALUES is a value without columns
 abbrev pub entry : Form
-entry = Expr false false
+entry = value_with false
 
 abbrev pub truth : Form
 truth = Expr true true
 
 -- f { , f } with at most 64 parts
 abbrev pub list : Form → Form
-list f = Parts 64 f f
+list f = Parts 64 true f
 
 -- ( f )
 abbrev pub in_brackets : Form → Form
@@ -66,7 +70,7 @@ key_part = Then (May (Then (key word.Constraint) name)) (Then primary_key (in_br
 
 -- part { , part }, of which those that define a column are counted
 abbrev pub table_parts : Form
-table_parts = Parts 64 name (Or column_part key_part)
+table_parts = Parts 64 false (Or column_part key_part)
 
 -- TABLE table ( part { , part } )
 abbrev pub create_table : Form
@@ -94,7 +98,7 @@ row = in_brackets (list entry)
 
 -- INSERT [INTO] table [ ( name { , name } ) ] VALUES ( e { , e } ) { , ( e { , e } ) } with at most 1,000 rows
 abbrev pub insert : Form
-insert = Then (key word.Insert) (Then (May (key word.Into)) (Then Table (Then (May (in_brackets (list name))) (Then (key word.Values) (Parts 1000 row row)))))
+insert = Then (key word.Insert) (Then (May (key word.Into)) (Then Table (Then (May (in_brackets (list name))) (Then (key word.Values) (Parts 1000 true row)))))
 
 -- WHERE e
 abbrev pub where_truth : Form

@@ -1,0 +1,3 @@
+pub mod Cant
+pub mod ListLemmas
+pub mod Texts
