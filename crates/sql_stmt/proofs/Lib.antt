@@ -1,3 +1,1 @@
-pub mod Cant
-pub mod ListLemmas
-pub mod Texts
+pub mod Batches

@@ -1,5 +1,2 @@
 pub mod Statements
-pub mod Gives
-pub mod Said
-pub mod Lists
-pub mod Parts
+pub mod Laws

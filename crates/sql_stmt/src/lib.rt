@@ -1,5 +1,8 @@
-//! Reads the statements of a batch, one at a time.
+//! The grammar of statements.
 #![tactic(auto)]
 
-mod take;
-mod lists;
+mod law;
+
+pub use law::{
+    batches_are_told_by_their_tokens, batches_say_one_thing, one_token_tells_how_to_go_on,
+};
