@@ -128,7 +128,7 @@ gone_feed names r (s ∷ stack) now spare t k =
     (gone_opened r a.opens t.at (counted r a.counts spare t.at (stepped a.step stack t.at f))
     (gone_counted r a.counts spare t.at (stepped a.step stack t.at f) (gone_stepped a.step stack t.at f (act_other names s now t k) (λ p. gone_feed names r stack p spare t k))))
 
-abbrev NotOpen : Outcome → Type 0
+abbrev pub NotOpen : Outcome → Type 0
 NotOpen (Open s p m) = ⊥
 NotOpen (Ended p m rest) = Unit {0}
 NotOpen (Stopped why at) = Unit {0}
@@ -143,11 +143,12 @@ open_next (Go s p m) t ts f h = h s p m
 open_next (Over p m) t ts f h = tt
 open_next (Refuse why at) t ts f h = tt
 
-not_open : (names : Bool) (r : Rules) (front : List Token) (t : Token) (others : List Token) → role_of t ≡ role.Other → (s : List Symbol) (p : Part) (m : ℕ) → NotOpen (run names r s p m (front ++ t ∷ others))
+-- tokens of which one is of no expression don't all begin one
+pub not_open : (names : Bool) (r : Rules) (front : List Token) (t : Token) (others : List Token) → role_of t ≡ role.Other → (s : List Symbol) (p : Part) (m : ℕ) → NotOpen (run names r s p m (front ++ t ∷ others))
 not_open names r [] t others k s p m = gone_next (feed names r s p m t) t others (λ s2 p2 m2. run names r s2 p2 m2 others) (gone_feed names r s p m t k)
 not_open names r (f ∷ front) t others k s p m = open_next (feed names r s p m f) f (front ++ t ∷ others) (λ s2 p2 m2. run names r s2 p2 m2 (front ++ t ∷ others)) (not_open names r front t others k)
 
-refusal_is : (o : Outcome) (at : ℕ) → NotOpen o → got o ≡ Refused at → (why : Fault) × (o ≡ Stopped why at)
+pub refusal_is : (o : Outcome) (at : ℕ) → NotOpen o → got o ≡ Refused at → (why : Fault) × (o ≡ Stopped why at)
 refusal_is (Open s p m) at n h = absurd n
 refusal_is (Ended p m rest) at n h = cc
 refusal_is (Stopped why at2) at n h = let a : at2 ≡ at = cc in (why, rw a refl)

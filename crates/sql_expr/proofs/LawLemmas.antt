@@ -219,20 +219,20 @@ freed CantStand at next other is k h = cc
 freed WrongKind at next other is k h = cc
 
 -- a token that a limit refuses could stand but for the limits
-unlimited_begins : (names truth : Bool) (front : List Token) (t : Token) (s : List Symbol) (p : Part) (m : ℕ) (why : Fault) (at : ℕ) → reading names strict truth front ≡ Open s p m → feed names strict s p m t ≡ Refuse why at → is_limit why ≡ true
+pub unlimited_begins : (names truth : Bool) (front : List Token) (t : Token) (s : List Symbol) (p : Part) (m : ℕ) (why : Fault) (at : ℕ) → reading names strict truth front ≡ Open s p m → feed names strict s p m t ≡ Refuse why at → is_limit why ≡ true
     → Begins names loose truth (front ++ t ∷ [])
 unlimited_begins names truth front t s p m why at leads stops limit =
     gone_on names truth front t (feed names loose s p m t) (freed why at (feed names strict s p m t) (feed names loose s p m t) stops limit (frees_feed names s p m t))
     (run_append names loose front (t ∷ []) (whole truth) s no_part p 1000 m (same_run names loose front (whole truth) s no_part p 1000 m leads))
 
-holds_broken : (why : Fault) → Holds (broken why) why
+pub holds_broken : (why : Fault) → Holds (broken why) why
 holds_broken CantStand = tt
 holds_broken WrongKind = refl
 holds_broken TooDeep = refl
 holds_broken TooMany = refl
 
 -- the place of a refusal is the token's, but for a wrong kind
-abbrev Placed : Token → Next → Type 0
+abbrev pub Placed : Token → Next → Type 0
 Placed t (Go s p m) = Unit {0}
 Placed t (Over p m) = Unit {0}
 Placed t (Refuse WrongKind at) = Unit {0}
@@ -269,7 +269,7 @@ placed_stepped Stuck stack t behind h m = refl
 placed_stepped (Take symbols now) stack t behind h m = tt
 placed_stepped (Leave now) stack t behind h m = h now
 
-placed_feed : (names : Bool) (r : Rules) (stack : List Symbol) (now : Part) (spare : ℕ) (t : Token) → Placed t (feed names r stack now spare t)
+pub placed_feed : (names : Bool) (r : Rules) (stack : List Symbol) (now : Part) (spare : ℕ) (t : Token) → Placed t (feed names r stack now spare t)
 placed_feed names r [] now spare t = tt
 placed_feed names r (s ∷ stack) now spare t =
     let a = act names s now t in
@@ -278,7 +278,7 @@ placed_feed names r (s ∷ stack) now spare t =
     (placed_opened r a.opens t (counted r a.counts spare t.at (stepped a.step stack t.at f))
     (placed_counted r a.counts spare t (stepped a.step stack t.at f) (placed_stepped a.step stack t f (λ p. placed_feed names r stack p spare t))))
 
-place_of : (names truth : Bool) (why : Fault) (at : ℕ) (front : List Token) (t : Token) (s : List Symbol) (p : Part) (m : ℕ) → reading names strict truth front ≡ Open s p m → feed names strict s p m t ≡ Refuse why at → Placed t (Refuse why at) → IsPlace names why at front t
+pub place_of : (names truth : Bool) (why : Fault) (at : ℕ) (front : List Token) (t : Token) (s : List Symbol) (p : Part) (m : ℕ) → reading names strict truth front ≡ Open s p m → feed names strict s p m t ≡ Refuse why at → Placed t (Refuse why at) → IsPlace names why at front t
 place_of names truth WrongKind at front t s p m leads stops h = wrong_part names truth front t s p m at leads stops
 place_of names truth CantStand at front t s p m leads stops h = h
 place_of names truth TooDeep at front t s p m leads stops h = h

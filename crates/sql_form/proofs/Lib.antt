@@ -1,0 +1,14 @@
+pub mod BoolLemmas
+pub mod Expressions
+pub mod Shorter
+pub mod Beginning
+pub mod Complete
+pub mod Samples
+pub mod Told
+pub mod ToldLeaves
+pub mod ToldForms
+pub mod ToldParts
+pub mod FormLaws
+pub mod PlainLemmas
+pub mod WholeLemmas
+pub mod Batches
