@@ -5,3 +5,6 @@ pub mod Cells
 pub mod Given
 pub mod Values
 pub mod Truths
+pub mod Types
+pub mod Names
+pub mod Typed

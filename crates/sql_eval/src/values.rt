@@ -13,8 +13,8 @@ use page_base::{Columns, Name, NoMemory, Row, Value};
 use plain_model::Expr;
 use std::alloc::Global;
 
-// The place of the first column of a name.
-fn place_of(cols: &Columns, name: &Name) -> Option<usize>
+/// The place of the first column of a name.
+pub(crate) fn place_of(cols: &Columns, name: &Name) -> Option<usize>
     ensures { result ≡ place_of cols.now name.now }
 {
     cols.as_slice()
