@@ -8,3 +8,4 @@ pub mod Truths
 pub mod Types
 pub mod Names
 pub mod Typed
+pub mod Laws
