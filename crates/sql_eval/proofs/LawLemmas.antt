@@ -1,5 +1,5 @@
 -- Why an overflow in a part is one of the whole.
-use Rattle.std.proofs.Common.{◌≡◌, ◌⊎◌, List, subst, ap, inl, inr, sym, ◌∙◌, refl}
+use Rattle.std.proofs.Common.{◌≡◌, ◌⊎◌, List, ap, inl, inr, sym, ◌∙◌, refl}
 use Rattle.std.specs.Prelude.{Option, Some, None, option_map, option_and_then}
 use Rattle.plain_model.specs.Tree.{Tree, Entries}
 use Rattle.plain_model.specs.Tree as tree
@@ -7,10 +7,9 @@ use Rattle.plain_model.specs.declared.expr.CompareOp.{CompareOp}
 use Rattle.plain_model.specs.declared.expr.CompareOp.TheVariants.{Eq, Le, Ge}
 use Rattle.page_base.specs.declared.column.Column.{Column}
 use Rattle.page_base.specs.declared.value.Value.{Value}
-use Rattle.page_base.specs.declared.value.Truth.{Truth}
 use Rattle.sql_eval.specs.Laws.{IsEntry, IsValuePart, IsTruthPart, Overflows}
 use Rattle.sql_eval.specs.Numbers.{math}
-use Rattle.sql_eval.specs.Truths.{truth_of, comparison, among, conjunction, disjunction}
+use Rattle.sql_eval.specs.Truths.{truth_of, comparison, among}
 use Rattle.sql_eval.specs.Values.{value_of, both}
 
 -- of two, the first is an overflow

@@ -1,5 +1,5 @@
 -- The parts of an expression, each of which is evaluated.
-use Rattle.std.specs.Prelude.{◌≡◌, ◌⊎◌, List, Option, None}
+use Rattle.std.specs.Prelude.{◌≡◌, ◌⊎◌, List, None}
 use Rattle.plain_model.specs.Tree.{Tree, Entries}
 use Rattle.plain_model.specs.Tree as tree
 use Rattle.page_base.specs.declared.column.Column.{Column}
