@@ -1,6 +1,6 @@
 //! What the definitions of values, truths and types promise together, as functions whose contracts say it.
 
-ghost use Rattle.std.specs.Prelude.{◌≡◌, ℕ, List, Option, Some, None};
+ghost use Rattle.std.specs.Prelude.{◌≡◌, List, None};
 ghost use Rattle.page_base.specs.declared.column.Column.{Column};
 ghost use Rattle.page_base.specs.declared.value.Value.{Value};
 ghost use Rattle.page_base.specs.declared.value.Truth.{Truth};

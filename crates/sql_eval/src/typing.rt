@@ -1,11 +1,9 @@
 //! The type of an expression over columns.
 
-ghost use Rattle.std.specs.Prelude.{◌≡◌, Some};
+ghost use Rattle.std.specs.Prelude.{◌≡◌};
 ghost use Rattle.plain_model.specs.Tree.{tree_of, entries_of};
 ghost use Rattle.sql_eval.specs.Types.{tree_type, entries_type};
 ghost use Rattle.sql_eval.specs.Typed.{Typed};
-ghost use Rattle.sql_eval.specs.Values.{both};
-ghost use Rattle.sql_eval.specs.declared.types.ExprType.TheVariants.{Truth};
 
 use crate::kinds::{
     column_type, comparison_type, literal_type, logic_type, math_type, null_test_type,
