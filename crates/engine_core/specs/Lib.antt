@@ -14,3 +14,4 @@ pub mod Creating
 pub mod Steps
 pub mod Schedules
 pub mod Closing
+pub mod Played

@@ -23,15 +23,16 @@ module _ (book : List Event) (status : ℕ) (taken taken' : Option (List ℕ)) (
   one_of a b c d (inr (inr e)) x y z = z (cc e)
 
   -- at status 0 all files are back, and the text of the history was written
-  pub tells_done : (end : CloseEnd) → (status ≡ status_of end) ⊎ ((status ≡ 3) ⊎ (status ≡ 4)) → (status ≡ status_of end → Appends taken taken' (told_text book end)) → status ≡ 0 → Appends taken taken' (printed book)
-  tells_done Done known all zero = all zero
-  tells_done (Fault name) known all zero = absurd (one_of status 7 3 4 known (λ e. omega (arith, e, zero)) (λ e. omega (arith, e, zero)) (λ e. omega (arith, e, zero)))
+  pub tells_done : (is : CloseEnd → Type 0) (end : CloseEnd) → is end → (status ≡ status_of end) ⊎ ((status ≡ 3) ⊎ (status ≡ 4)) → (status ≡ status_of end → Appends taken taken' (told_text book end)) → status ≡ 0
+      → is Done × Appends taken taken' (printed book)
+  tells_done is Done so known all zero = (so, all zero)
+  tells_done is (Fault name) so known all zero = absurd (one_of status 7 3 4 known (λ e. omega (arith, e, zero)) (λ e. omega (arith, e, zero)) (λ e. omega (arith, e, zero)))
 
   -- at status 7 the line of a file that wasn't put back was written behind it
-  pub tells_close : (end : CloseEnd) → (IsFault end → Rose f f') → (status ≡ status_of end) ⊎ ((status ≡ 3) ⊎ (status ≡ 4)) → (status ≡ status_of end → Appends taken taken' (told_text book end)) → status ≡ 7
-      → (name : List ℕ) × Rose f f' × Appends taken taken' (printed book ++ close_line name)
-  tells_close Done fault known all seven = absurd (one_of status 0 3 4 known (λ e. omega (arith, e, seven)) (λ e. omega (arith, e, seven)) (λ e. omega (arith, e, seven)))
-  tells_close (Fault name) fault known all seven = (name, fault tt, all seven)
+  pub tells_close : (is : CloseEnd → Type 0) (end : CloseEnd) → is end → (IsFault end → Rose f f') → (status ≡ status_of end) ⊎ ((status ≡ 3) ⊎ (status ≡ 4)) → (status ≡ status_of end → Appends taken taken' (told_text book end)) → status ≡ 7
+      → (name : List ℕ) × Rose f f' × is (Fault name) × Appends taken taken' (printed book ++ close_line name)
+  tells_close is Done so fault known all seven = absurd (one_of status 0 3 4 known (λ e. omega (arith, e, seven)) (λ e. omega (arith, e, seven)) (λ e. omega (arith, e, seven)))
+  tells_close is (Fault name) so fault known all seven = (name, fault tt, so, all seven)
 
   -- the text of a closed run is one that may be told
   pub may_be_told : (end : CloseEnd) → (IsFault end → Rose f f') → IsTold f f' book (told_text book end)

@@ -1,3 +1,4 @@
 pub mod Headline
 pub mod Refusing
 pub mod Closed
+pub mod Runs

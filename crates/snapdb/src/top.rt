@@ -11,12 +11,16 @@ ghost use Rattle.plain_model.specs.Legal.{Legal};
 ghost use Rattle.plain_model.specs.Order.{IsInOrder};
 ghost use Rattle.plain_model.specs.declared.pick.Pick.{Pick};
 ghost use Rattle.plain_model.specs.Printed.{printed};
+ghost use Rattle.engine_core.specs.declared.closing.CloseEnd.{CloseEnd};
+ghost use Rattle.engine_core.specs.declared.closing.CloseEnd.TheVariants.{Done, Fault};
 ghost use Rattle.engine_core.specs.Closing.{IsFault};
+ghost use Rattle.engine_core.specs.Disks.{disk_of};
 ghost use Rattle.engine_core.specs.Opened.{names_of};
 ghost use Rattle.engine_core.specs.Safe.{is_turn};
 ghost use Rattle.engine_core.specs.Causes.{is_failure};
 ghost use Rattle.snapdb.specs.Closed.{told_text, status_of};
 ghost use Rattle.snapdb.specs.Refusing.{Answers, HasReason, WritesLine};
+ghost use Rattle.snapdb.specs.Runs.{HaveRun, Runs};
 ghost use Rattle.script_read.specs.declared.refusal.Why.{Why};
 ghost use Rattle.script_read.specs.Script.{IsScript};
 ghost use Rattle.snapdb.specs.Headline.{IsPlay, Reads, Tells, Refuses, IsDue, close_line, script_line, fresh};
@@ -100,6 +104,7 @@ fn run_scripts<V: Volume>(
     ensures legal { IfOk result (λ c. IsTrue (V.tells volume) → Legal (fresh (names_of (V.folder volume))) work.scripts c.book) }
     ensures complete { IfOk result (λ c. Complete work.scripts c.book) }
     ensures order { IfOk result (λ c. IsInOrder work.scripts work.picks c.book) }
+    ensures run { IfOk result (λ c. HaveRun work.scripts work.picks (disk_of V.tells V.folder V.out V.failures V.file_failures volume) (disk_of V.tells V.folder V.out V.failures V.file_failures c.volume) c.book c.end) }
     ensures out { IfOk result (λ c. (n : List ℕ) → finset.contains (V.out c.volume) n ≡ false) }
     ensures tells { IfOk result (λ c. V.tells c.volume ≡ V.tells volume) }
     ensures later { IfOk result (λ c. V.failures volume ≤ V.failures c.volume) }
@@ -128,6 +133,7 @@ fn play<V: Volume, S: Source>(
 ) -> Result<Closed<V>, Unplayed<V>>
     requires out { (n : List ℕ) → finset.contains (V.out volume) n ≡ false }
     ensures tells { IfOk result (λ c. Tells (V.tells volume) (names_of (V.folder volume)) (S.left input.old) (S.left input.new) c.book) }
+    ensures runs { IfOk result (λ c. Runs (disk_of V.tells V.folder V.out V.failures V.file_failures volume) (disk_of V.tells V.folder V.out V.failures V.file_failures c.volume) (S.left input.old) (S.left input.new) c.book c.end) }
     ensures out { IfOk result (λ c. (n : List ℕ) → finset.contains (V.out c.volume) n ≡ false) }
     ensures told { IfOk result (λ c. V.tells c.volume ≡ V.tells volume) }
     ensures volume_later { IfOk result (λ c. V.failures volume ≤ V.failures c.volume) }
@@ -257,15 +263,21 @@ pub fn still<V: Volume, S: Source, K: Sink>(
     ensures history { ((result.book ≡ []) × (result.volume ≡ volume))
         ⊎ Tells (V.tells volume) (names_of (V.folder volume)) (S.left input.old) (S.left input.new) result.book }
 
-    // At status 0 a whole script was read, and the text of its history was written.
+    // Where there is a history it is that of one run, from the volume as it was handed in to the volume as it is left.
+    ensures run { ((result.book ≡ []) × (result.volume ≡ volume))
+        ⊎ ((end : CloseEnd) × Runs (disk_of V.tells V.folder V.out V.failures V.file_failures volume) (disk_of V.tells V.folder V.out V.failures V.file_failures result.volume) (S.left input.old) (S.left input.new) result.book end) }
+
+    // At status 0 a whole script was read and run, all its files are back, and the text of its history was written.
     ensures done { result.status ≡ 0 → IsPlay (map (λ w. w.items) words.now)
         × Tells (V.tells volume) (names_of (V.folder volume)) (S.left input.old) (S.left input.new) result.book
+        × Runs (disk_of V.tells V.folder V.out V.failures V.file_failures volume) (disk_of V.tells V.folder V.out V.failures V.file_failures result.volume) (S.left input.old) (S.left input.new) result.book Done
         × Appends (K.taken out.old) (K.taken out.new) (printed result.book) }
 
-    // At status 7 the volume failed, and the line of a file was written behind the history.
+    // At status 7 the volume failed as a file was put back, and the line of the first such file was written behind the history.
     ensures closed { result.status ≡ 7 → IsPlay (map (λ w. w.items) words.now)
         × Tells (V.tells volume) (names_of (V.folder volume)) (S.left input.old) (S.left input.new) result.book
         × ((name : List ℕ) × Rose (V.failures volume) (V.failures result.volume)
+        × Runs (disk_of V.tells V.folder V.out V.failures V.file_failures volume) (disk_of V.tells V.folder V.out V.failures V.file_failures result.volume) (S.left input.old) (S.left input.new) result.book (Fault name)
         × Appends (K.taken out.old) (K.taken out.new) (printed result.book ++ close_line name)) }
 
     // At status 2 the line that was written says why.

@@ -1,8 +1,10 @@
-use Rattle.std.proofs.Common.{◌≡◌, ◌++◌, ◌∙◌, List, ap, sym, arith}
+use Rattle.std.proofs.Common.{◌≡◌, ◌++◌, ◌∙◌, List, ap, sym, subst, refl, arith}
 use Rattle.std.specs.List.{list_any}
 use Rattle.plain_model.specs.declared.event.Event.{Event}
 use Rattle.engine_core.specs.Causes.{is_failure}
 use Rattle.engine_core.specs.Safe.{Disk}
+use Rattle.engine_core.specs.Schedules.{Plays}
+use Rattle.plain_model.specs.declared.pick.Pick.{Pick}
 use Rattle.engine_core.proofs.CallerLemmas.{goes_further}
 use Rattle.snapdb.proofs.top.run_scripts.Goals as goal
 
@@ -14,3 +16,22 @@ returns-in-Ok-clause-failed g c = λ h.
     let first = ap (λ (d : Disk). d.failures) c.in-Ok.ensures.disk in
     let last = c.close.ensures.failures in
     omega (arith, rose, first, last)
+
+pub returns-in-Ok-clause-run : goal.returns-in-Ok-clause-run
+returns-in-Ok-clause-run g c = record {
+  opened = c.in-Ok.engine;
+  played = c.run.new.self;
+  last = c.finish.new.self;
+  begins = rw (c.in-Ok.ensures.opening, c.source.ensures, c.data_file.ensures) refl;
+  same = c.in-Ok.ensures.scripts;
+  disk = c.in-Ok.ensures.disk;
+  size = c.in-Ok.ensures.pages;
+  empty = c.in-Ok.ensures.book;
+  plays = subst (λ (picks : List Pick). Plays picks c.in-Ok.engine c.run.new.self) c.as_slice.ensures c.run.ensures.plays;
+  rounds = c.finish.ensures.rounds;
+  left = c.finish.ensures.left;
+  tells = c.close.ensures.book;
+  ends = c.close.ensures.ends;
+  fault = c.close.ensures.fault;
+  places = c.close.ensures.folder;
+}
