@@ -60,7 +60,7 @@ fn columns(alloc: Global) -> Result<Columns, Fail> {
     Ok(cols)
 }
 
-// The row 7, NULL, 'xy'.
+// A row of 7, NULL and 'xy'.
 fn row(alloc: Global) -> Result<Row, Fail> {
     let mut row = Row::new(alloc);
     row.push(Value::Int(7))?;

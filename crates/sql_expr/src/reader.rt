@@ -3,9 +3,10 @@
 ghost use Rattle.std.specs.Prelude.{◌≡◌, ◌∷◌, ◌++◌, ◌≢◌, ◌≤◌, false, [], Bool, ℕ, List, length};
 ghost use Rattle.plain_model.specs.Tree.{Tree, In, tree_of, entries_of};
 ghost use Rattle.sql_expr.specs.declared.role.Level.TheVariants as levels;
+ghost use Rattle.sql_expr.specs.declared.role.Role.TheVariants as roles;
 ghost use Rattle.sql_expr.specs.Grammar.{inner};
 ghost use Rattle.sql_expr.specs.Rules.{strict};
-ghost use Rattle.sql_expr.specs.Symbols.{Part, Symbol, Want, May, Low, Entry, onto, membership};
+ghost use Rattle.sql_expr.specs.Symbols.{Part, Symbol, Want, May, Judge, Joining, Low, Entry, onto, membership};
 ghost use Rattle.sql_expr.specs.Read.{run};
 ghost use Rattle.sql_expr.specs.Steps.{IsCons, IsChain, part_of, Passes, listing};
 
@@ -16,7 +17,7 @@ use crate::steps::{
 };
 use crate::tree::{Read, between, denied, joined, last, membership, more, null_test, opposite};
 use crate::{Level, Role};
-use plain_model::InRest;
+use plain_model::{CompareOp, InRest};
 use sql_lex::{ParseRefusal, Tokens};
 use std::alloc::Global;
 
@@ -139,15 +140,7 @@ fn comparison(
             spare: found.spare,
             tree: left.tree,
         }),
-        Comparison::Relation(op) => {
-            let right = expression(alloc, tokens, names, n, found.spare, Level::Sums)?;
-            judge(tokens, &right, false)?;
-            Ok(Read {
-                at: left.at,
-                spare: right.spare,
-                tree: joined(alloc, Role::Compare(op), left.tree, right.tree)?,
-            })
-        }
+        Comparison::Relation(op) => related(alloc, tokens, names, n, found.spare, op, left),
         Comparison::Null { negative } => Ok(Read {
             at: left.at,
             spare: found.spare,
@@ -166,6 +159,29 @@ fn comparison(
             })
         }
     }
+}
+
+// Behind an operator that compares: sum
+#[cycle(reading)]
+fn related(
+    alloc: Global,
+    tokens: &mut Tokens<'_>,
+    names: bool,
+    n: u32,
+    spare: u32,
+    op: CompareOp,
+    left: Read,
+) -> Result<Read, ParseRefusal>
+    ensures passes { (stack : List Symbol) (now : Part) → Passes result (run names strict (Want n levels.Sums ∷ Judge false (Joining (roles.Compare op) (part_of left)) ∷ stack) now spare tokens.old) (λ x. run names strict stack (part_of x) x.spare tokens.new) }
+    ensures shorter { length tokens.new ≤ length tokens.old }
+{
+    let right = expression(alloc, tokens, names, n, spare, Level::Sums)?;
+    judge(tokens, &right, false)?;
+    Ok(Read {
+        at: left.at,
+        spare: right.spare,
+        tree: joined(alloc, Role::Compare(op), left.tree, right.tree)?,
+    })
 }
 
 // Behind BETWEEN: sum AND sum

@@ -18,6 +18,9 @@ decreases-negation l = 16 * length l.tokens.now + 8
 abbrev pub decreases-comparison : goal.decreases-comparison
 decreases-comparison l = 16 * length l.tokens.now + 7
 
+abbrev pub decreases-related : goal.decreases-related
+decreases-related l = 16 * length l.tokens.now + 6
+
 abbrev pub decreases-bounds : goal.decreases-bounds
 decreases-bounds l = 16 * length l.tokens.now + 6
 
