@@ -16,14 +16,14 @@ use Rattle.page_base.specs.declared.numbers.SnapNo.{SnapNo}
 use Rattle.page_dev.specs.Faults.{Rose, total}
 use Rattle.page_dev.specs.Files.{Files, files_of}
 use Rattle.page_dev.specs.PageFile.{FilePages}
-use Rattle.page_dev.specs.Volume.{Folder, Lies}
+use Rattle.page_dev.specs.Volume.{Folder, Lies, Out}
 use Rattle.plain_model.specs.Sound.{are_distinct}
 use Rattle.snap_pages.specs.Sparse.{faults}
 use Rattle.snap_pages.specs.Catalog.{Snap, Catalog, snap_at, no_snap, without}
 use Rattle.snap_pages.specs.Shown.{Shown, catalog, count, counts, IsOpen, set_of}
 use Rattle.engine_core.specs.declared.closing.CloseEnd.{CloseEnd}
 use Rattle.engine_core.specs.declared.closing.CloseEnd.TheVariants.{Done, Fault}
-use Rattle.engine_core.specs.Closing.{first, file_of, bytes_of, IsFault, first_fault, Names, PutsBack, AreBack, Ends}
+use Rattle.engine_core.specs.Closing.{first, file_of, bytes_of, IsFault, first_fault, Names, PutsBack, AreBack, Ends, StillLies}
 use Rattle.engine_core.specs.Pushing.{faults_of}
 use Rattle.engine_core.specs.Safe.{Disk, sparse_names}
 
@@ -70,6 +70,7 @@ pub record Handed (v w : Shown) (start now : Disk) (end : CloseEnd) : Type 0 whe
   pub fault : IsFault end → Rose start.failures now.failures
   pub blame : (s : SnapNo) → IsOpen v s → s.0 < done → 1 ≤ faults_of v s → Rose start.file_failures now.file_failures
   pub folder : (name : List ℕ) → IsTrue start.told → finite.contains_key now.folder name ≡ finite.contains_key start.folder name
+  pub lies : StillLies start.told start.folder now.folder
   pub aside : (s : SnapNo) → IsOpen v s → s.0 < done → finset.contains now.out (file_of v s) ≡ false
   pub ends : Ends v done now end
 
@@ -88,6 +89,7 @@ handed_none v start out distinct single = record {
   fault = λ fault. absurd fault;
   blame = λ s there lt. absurd (omega (arith, lt));
   folder = λ name told. refl;
+  lies = λ name bytes told is. is;
   aside = λ s there lt. absurd (omega (arith, lt));
   ends = λ s there lt. absurd (omega (arith, lt));
 }
@@ -190,6 +192,12 @@ module _ (v w w' : Shown) (start now now' : Disk) (end end' : CloseEnd) (handed 
       | inr f ↦ placed q ∙ ap (λ b. cond b (Some (Lies (puts.folder told).left)) (finite.get now.folder q)) f
     ]
 
+    lies_still : (q bytes : List ℕ) → finite.get now.folder q ≡ Some (Lies bytes) → finite.get now'.folder q ≡ Some (Lies bytes)
+    lies_still q bytes is = elim (cases_Bool (bytes_eq q (file_of w first))) [
+      | inl t ↦ absurd (let x : Some Out ≡ Some (Lies bytes) = sym (puts.folder told).had ∙ ap (finite.get now.folder) (sym ((bytes_eq-Decides q (file_of w first)).0 t)) ∙ is in cc)
+      | inr f ↦ placed q ∙ ap (λ b. cond b (Some (Lies (puts.folder told).left)) (finite.get now.folder q)) f ∙ is
+    ]
+
   told_before : IsTrue now'.told → IsTrue now.told
   told_before told = sym puts.tells ∙ told
 
@@ -254,6 +262,7 @@ module _ (v w w' : Shown) (start now now' : Disk) (end end' : CloseEnd) (handed 
       | inr other ↦ let a = handed.blame s there (omega (arith, lt, other)) faulted in let b = puts.counted in omega (arith, a, b)
     ];
     folder = λ q told. keys (handed.tells ∙ told) q ∙ handed.folder q told;
+    lies = λ q bytes told is. lies_still (handed.tells ∙ told) q bytes (handed.lies q bytes told is);
     aside = aside_now;
     ends = ends_now end end' handed.ends refl puts.named;
   }

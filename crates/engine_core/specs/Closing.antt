@@ -57,6 +57,10 @@ pub record PutsBack (name : List ℕ) (told : Bool) (bytes : List ℕ) (faults :
   pub counted : new.file_failures ≡ added old.file_failures faults
   pub folder : IsTrue old.told → Returns told bytes name old.folder new.folder end
 
+-- what lies in a folder that tells lies there afterwards
+abbrev pub StillLies : Bool → Folder → Folder → Type 0
+StillLies told old new = (name bytes : List ℕ) → IsTrue told → finite.get old name ≡ Some (Lies bytes) → finite.get new name ≡ Some (Lies bytes)
+
 -- each of the first n snapshots' files that tells lies at its name's place, with its bytes
 abbrev pub AreBack : Shown → ℕ → Disk → Type 0
 AreBack v n disk = (s : SnapNo) → IsOpen v s → s.0 < n → IsTrue disk.told → IsTrue (set_of v s).files.tells → finite.get disk.folder (file_of v s) ≡ Some (Lies (bytes_of v s))

@@ -8,14 +8,14 @@ use Rattle.plain_model.specs.declared.event.Event.{Event}
 use Rattle.plain_model.specs.Journal.{Opening}
 use Rattle.snap_pages.specs.Shown.{counts, count}
 use Rattle.engine_core.specs.declared.closing.CloseEnd.{CloseEnd}
-use Rattle.engine_core.specs.Closing.{IsFault, Ends}
+use Rattle.engine_core.specs.Closing.{IsFault, Ends, StillLies}
 use Rattle.engine_core.specs.Safe.{Disk, Run}
 use Rattle.engine_core.specs.Schedules.{Plays, Rounds}
 use Rattle.engine_core.specs.Steps.{HaveLeft}
 
 -- Scripts were run from one volume to another: an engine over a new source of so many pages took the schedule's steps, and then
 -- the lowest session that hadn't left took its own, until all had left. The book is its history. All its sparse files are back, or
--- this one is the first that isn't, and then the volume failed as it was put back. In this no name came or went.
+-- this one is the first that isn't, and then the volume failed as it was put back. In this no name came or went, and what lay there lies there still.
 pub record IsRun (opening : Opening) (pages : ℕ) (scripts : List (List Stmt)) (picks : List Pick) (before after : Disk) (book : List Event) (end : CloseEnd) : Type 0 where
   pub opened : Run
   pub played : Run
@@ -32,3 +32,4 @@ pub record IsRun (opening : Opening) (pages : ℕ) (scripts : List (List Stmt)) 
   pub ends : Ends last.shown (count last.shown) after end
   pub fault : IsFault end → Rose last.disk.failures after.failures
   pub places : (name : List ℕ) → IsTrue last.disk.told → finite.contains_key after.folder name ≡ finite.contains_key last.disk.folder name
+  pub lies : StillLies last.disk.told last.disk.folder after.folder

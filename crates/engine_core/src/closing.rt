@@ -10,7 +10,7 @@ ghost use Rattle.page_dev.specs.Faults.{Rose};
 ghost use Rattle.plain_model.specs.Sound.{are_distinct};
 ghost use Rattle.snap_pages.specs.Catalog.{snap_at, without};
 ghost use Rattle.snap_pages.specs.Shown.{IsOpen, catalog, count, counts, set_of};
-ghost use Rattle.engine_core.specs.Closing.{Ends, IsFault, PutsBack, bytes_of, file_of, first, first_fault};
+ghost use Rattle.engine_core.specs.Closing.{Ends, IsFault, PutsBack, StillLies, bytes_of, file_of, first, first_fault};
 ghost use Rattle.engine_core.specs.Disks.{disk_of};
 ghost use Rattle.engine_core.specs.Pushing.{faults_of};
 ghost use Rattle.engine_core.specs.Safe.{sparse_names};
@@ -80,6 +80,7 @@ pub(crate) fn put_back<V: Volume>(volume: &mut V, mut pages: SnapPages<V::Pages>
     ensures fault { IsFault result → Rose (V.failures volume.old) (V.failures volume.new) }
     ensures blame { (s : SnapNo) → IsOpen pages s → 1 ≤ faults_of pages s → Rose (V.file_failures volume.old) (V.file_failures volume.new) }
     ensures folder { (name : List ℕ) → IsTrue (V.tells volume.old) → finite.contains_key (V.folder volume.new) name ≡ finite.contains_key (V.folder volume.old) name }
+    ensures lies { StillLies (V.tells volume.old) (V.folder volume.old) (V.folder volume.new) }
     ensures ends { Ends pages (count pages) (disk_of V.tells V.folder V.out V.failures V.file_failures volume.new) result }
 {
     let mut end = CloseEnd::Done;

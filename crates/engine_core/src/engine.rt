@@ -7,7 +7,7 @@ ghost use Rattle.plain_model.specs.declared.pick.Pick.{Pick};
 ghost use Rattle.plain_model.specs.Order.{closers, order, steps};
 ghost use Rattle.engine_core.specs.declared.moved.Moved.TheVariants.{Went, Ended};
 ghost use Rattle.engine_core.specs.Safe.{state, seen_by, seat_at, script_at, is_turn};
-ghost use Rattle.engine_core.specs.Closing.{IsFault, Ends};
+ghost use Rattle.engine_core.specs.Closing.{IsFault, Ends, StillLies};
 ghost use Rattle.plain_model.specs.Legal.{Legal};
 ghost use Rattle.plain_model.specs.Complete.{Complete};
 ghost use Rattle.page_dev.specs.Faults.{Rose};
@@ -488,6 +488,7 @@ impl<V: Volume> Engine<V> {
         ensures fault { IsFault result.end → Rose self.disk.failures (V.failures result.volume) }
         ensures blame { list_any is_turn result.book ≡ true → Rose self.disk.file_failures (V.file_failures result.volume) }
         ensures ends { Ends self.shown (count self.shown) (disk_of V.tells V.folder V.out V.failures V.file_failures result.volume) result.end }
+        ensures lies { StillLies self.disk.told self.disk.folder (V.folder result.volume) }
         ensures folder { (name : List ℕ) → IsTrue self.disk.told → finite.contains_key (V.folder result.volume) name ≡ finite.contains_key self.disk.folder name }
     {
         let Engine {

@@ -34,4 +34,5 @@ returns-in-Ok-clause-run g c = record {
   ends = c.close.ensures.ends;
   fault = c.close.ensures.fault;
   places = c.close.ensures.folder;
+  lies = c.close.ensures.lies;
 }
