@@ -1,0 +1,5 @@
+pub mod Written
+pub mod FirstKey
+pub mod Counting
+pub mod Places
+pub mod Good

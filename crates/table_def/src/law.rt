@@ -1,0 +1,12 @@
+//! What the rule for columns promises, as a function whose contract says it.
+
+ghost use Rattle.std.specs.Prelude.{◌≡◌, ◌≤◌, true, List, length};
+ghost use Rattle.plain_model.specs.Sound.{are_columns};
+ghost use Rattle.table_def.specs.declared.parts.TablePart.{TablePart};
+ghost use Rattle.table_def.specs.Parts.{written};
+ghost use Rattle.table_def.specs.Defined.{columns_of};
+
+/// Columns that parts define are those of a definition that isn't a bad one, or none, where at most 64 parts are columns.
+pub fn defined_columns_are_good()
+    ensures { (parts : List TablePart) → length (written parts) ≤ 64 → are_columns (columns_of parts) ≡ true }
+{}
