@@ -68,19 +68,19 @@ pub hits_once : (n : List ℕ) (ns : List (List ℕ)) → are_distinct ns ≡ tr
 hits_once n [] d among = cc
 hits_once n (m ∷ ns) d among = elim (cases_Bool (bytes_eq n m)) [
   | inl same ↦
-    let gone : is_among ns n ≡ false = ap (is_among ns) (same_bytes n m same) ∙ first_differs m ns d in
-    omega (arith, ap one same, hits_none (bytes_eq n) ns gone)
+      let gone : is_among ns n ≡ false = ap (is_among ns) (same_bytes n m same) ∙ first_differs m ns d in
+      omega (arith, ap one same, hits_none (bytes_eq n) ns gone)
   | inr other ↦
-    let behind : is_among ns n ≡ true = sym (ap (λ (b : Bool). b || is_among ns n) other) ∙ among in
-    omega (arith, ap one other, hits_once n ns (others_differ m ns d) behind)
+      let behind : is_among ns n ≡ true = sym (ap (λ (b : Bool). b || is_among ns n) other) ∙ among in
+      omega (arith, ap one other, hits_once n ns (others_differ m ns d) behind)
 ]
 
 -- a name is one of different ones in one way
 pub one_way : (k : List ℕ) (ks : List (List ℕ)) → are_distinct (k ∷ ks) ≡ true → (n : List ℕ) → one (is_among (k ∷ ks) n) ≡ one (bytes_eq k n) + one (is_among ks n)
 one_way k ks d n = elim (cases_Bool (bytes_eq k n)) [
   | inl same ↦
-    let gone : is_among ks n ≡ false = ap (is_among ks) (sym (same_bytes k n same)) ∙ first_differs k ks d in
-    rw (bytes_eq-swap n k, same, gone) refl
+      let gone : is_among ks n ≡ false = ap (is_among ks) (sym (same_bytes k n same)) ∙ first_differs k ks d in
+      rw (bytes_eq-swap n k, same, gone) refl
   | inr other ↦ rw (bytes_eq-swap n k, other) (omega arith)
 ]
 

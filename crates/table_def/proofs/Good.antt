@@ -82,7 +82,7 @@ is_good key written few good_key good_columns =
     let dn : are_distinct (names_in written) ≡ true = not-false _ in_columns.0 in
     let size = and_parts (nat_le 1 (length key)) (nat_le (length key) 16) (not-false _ in_key.0) in
     let size_is : length (filter (λ c. nat_le 1 c.key) (map (column_of key) written)) ≡ length key =
-        places_counted key (nat_le 1) (is_among key) (has_place_if_among key) written ∙ hits_of_key key (names_in written) dk dn known in
+    places_counted key (nat_le 1) (is_among key) (has_place_if_among key) written ∙ hits_of_key key (names_in written) dk dn known in
     let short : nat_le (length (map (column_of key) written)) 64 ≡ true = le-leb _ 64 (rw length-map few) in
     and_from _ _ short (and_from _ _ (ap are_distinct (names_stay key written) ∙ dn) (and_from _ _ (each_is_column key written long)
     (and_from _ _ (ap (nat_le 1) size_is ∙ size.0) (and_from _ _ (ap (λ (n : ℕ). nat_le n 16) size_is ∙ size.1)

@@ -53,9 +53,9 @@ place_is (k ∷ ks) zero n d within = elim (cases_Bool (bytes_eq n k)) [
 ]
 place_is (k ∷ ks) (suc i) n d within = elim (cases_Bool (bytes_eq n k)) [
   | inl same ↦
-    let gone : is_among ks k ≡ false = first_differs k ks d in
-    let there : bytes_eq k (get_or ks i []) ≡ false = absent_at k ks i gone (omega (arith, within)) in
-    let not_there : bytes_eq (get_or ks i []) n ≡ false = bytes_eq-swap (get_or ks i []) n ∙ ap (λ (m : List ℕ). bytes_eq m (get_or ks i [])) (same_bytes n k same) ∙ there in
-    rw (place_first k n ks same, not_there) (grind (arith, nat_tests))
+      let gone : is_among ks k ≡ false = first_differs k ks d in
+      let there : bytes_eq k (get_or ks i []) ≡ false = absent_at k ks i gone (omega (arith, within)) in
+      let not_there : bytes_eq (get_or ks i []) n ≡ false = bytes_eq-swap (get_or ks i []) n ∙ ap (λ (m : List ℕ). bytes_eq m (get_or ks i [])) (same_bytes n k same) ∙ there in
+      rw (place_first k n ks same, not_there) (grind (arith, nat_tests))
   | inr other ↦ rw (place_later k n ks other) (grind (arith, nat_tests, place_is ks i n (others_differ k ks d) (omega (arith, within))))
 ]

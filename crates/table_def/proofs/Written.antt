@@ -1,5 +1,5 @@
 -- The columns among parts, taken part by part.
-use Rattle.std.proofs.Common.{◌≡◌, ℕ, ◌+◌, ◌<◌, Bool, false, true, List, [], ◌∷◌, ◌++◌, length, get_or, take, map, refl, sym, ap, ◌∙◌, not}
+use Rattle.std.proofs.Common.{◌≡◌, ℕ, ◌+◌, ◌<◌, ◌≤◌, arith, Bool, false, true, List, [], ◌∷◌, ◌++◌, length, get_or, take, map, refl, sym, ap, ◌∙◌, not}
 use Rattle.std.specs.List.{list_any, filter_map}
 use Rattle.std.specs.Prelude.{◌||◌}
 use Rattle.std.proofs.lemmas.List.{take_more, map-append, append-nil}
@@ -18,6 +18,12 @@ pub any_written : (p : ColumnPart → Bool) (parts : List TablePart) → list_an
 any_written p [] = refl
 any_written p (Column c ∷ parts) = ap (λ (any : Bool). p c || any) (any_written p parts)
 any_written p (Key names ∷ parts) = any_written p parts
+
+-- there are no more columns than parts
+pub written_are_parts : (parts : List TablePart) → length (written parts) ≤ length parts
+written_are_parts [] = omega arith
+written_are_parts (Column c ∷ parts) = omega (arith, written_are_parts parts)
+written_are_parts (Key names ∷ parts) = omega (arith, written_are_parts parts)
 
 -- one more part
 written_more : (parts : List TablePart) (i : ℕ) (d part : TablePart) → i < length parts → d ≡ get_or parts i d → d ≡ part

@@ -5,8 +5,8 @@ ghost use Rattle.table_def.specs.Parts.{written, in_column, names_of};
 ghost use Rattle.table_def.specs.Keys.{key_of};
 ghost use Rattle.table_def.specs.Faults.{contradicts, has_contradiction, is_bad_length, has_bad_length, is_null_key, has_null_key, has_unknown, has_wrong_size, is_bad_key, is_bad};
 
-use crate::kinds::has_length;
 use crate::keys::{key_of, lacks_one_key};
+use crate::kinds::has_length;
 use crate::names::{are_distinct, is_among};
 use crate::options::{says_not_null, says_null};
 use crate::{ColumnPart, TablePart, TableParts};
@@ -60,7 +60,10 @@ fn has_null_key_in(key: &[Name], part: &TablePart) -> bool
 fn has_contradiction(parts: &TableParts) -> bool
     ensures { result ≡ has_contradiction (written parts.now) }
 {
-    parts.as_slice().iter().any(|part| has_contradiction_in(part))
+    parts
+        .as_slice()
+        .iter()
+        .any(|part| has_contradiction_in(part))
 }
 
 // Whether one of the columns has a length that no VARCHAR may have.
@@ -99,10 +102,7 @@ fn is_bad_key(key: &[Name], names: &[Name], parts: &TableParts) -> bool
     requires { names.now ≡ names_of parts.now }
     ensures { result ≡ is_bad_key key.now (written parts.now) }
 {
-    has_wrong_size(key)
-        || !are_distinct(key)
-        || has_unknown(key, names)
-        || has_null_key(key, parts)
+    has_wrong_size(key) || !are_distinct(key) || has_unknown(key, names) || has_null_key(key, parts)
 }
 
 /// Whether the definition is a bad one, with the names of its columns.

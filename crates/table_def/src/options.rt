@@ -27,7 +27,11 @@ fn is_primary_key(option: ColumnOption) -> bool
 pub(crate) fn says_null(column: &ColumnPart) -> bool
     ensures { result ≡ says_null column.now }
 {
-    column.options.as_slice().iter().any(|option| is_null(*option))
+    column
+        .options
+        .as_slice()
+        .iter()
+        .any(|option| is_null(*option))
 }
 
 /// Whether a column is declared NOT NULL.

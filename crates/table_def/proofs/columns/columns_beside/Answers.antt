@@ -18,11 +18,11 @@ loop-part-preserved c =
     let at = rw c.as_slice-part-items.ensures at c.part-item.is in
     elim c.match-part.branch [
       | in-Column+in_ok-push-in-Column w ↦
-        w.cols-is ∙ w.in_ok-push-in-Column.ensures.ok
-        ∙ ap (λ (cols : List Column). cols ++ w.column_of.result ∷ []) c.loop-part.invariant
-        ∙ ap (λ (col : Column). map (column_of c.args.key.now) (written (take c.loop-part.part-index c.args.parts.now)) ++ col ∷ []) w.column_of.ensures
-        ∙ sym (column_more (column_of c.args.key.now) c.args.parts.now c.loop-part.part-index c.part-item.result w.in-Column.part within at w.in-Column.is)
+          w.cols-is ∙ w.in_ok-push-in-Column.ensures.ok
+          ∙ ap (λ (cols : List Column). cols ++ w.column_of.result ∷ []) c.loop-part.invariant
+          ∙ ap (λ (col : Column). map (column_of c.args.key.now) (written (take c.loop-part.part-index c.args.parts.now)) ++ col ∷ []) w.column_of.ensures
+          ∙ sym (column_more (column_of c.args.key.now) c.args.parts.now c.loop-part.part-index c.part-item.result w.in-Column.part within at w.in-Column.is)
       | in-Key w ↦
-        w.cols-is ∙ c.loop-part.invariant
-        ∙ sym (key_more (column_of c.args.key.now) c.args.parts.now c.loop-part.part-index c.part-item.result w.in-Key.field-0 within at w.in-Key.is)
+          w.cols-is ∙ c.loop-part.invariant
+          ∙ sym (key_more (column_of c.args.key.now) c.args.parts.now c.loop-part.part-index c.part-item.result w.in-Key.field-0 within at w.in-Key.is)
     ]
