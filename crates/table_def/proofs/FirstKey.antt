@@ -1,5 +1,5 @@
 -- The first PRIMARY KEY, taken part by part.
-use Rattle.std.proofs.Common.{◌≡◌, ℕ, suc, ◌+◌, ◌<◌, List, [], ◌∷◌, ◌++◌, length, get_or, drop, map, refl, sym, ap, ◌∙◌, arith, drop-cons, add-one}
+use Rattle.std.proofs.Common.{◌≡◌, ℕ, suc, ◌<◌, List, [], ◌∷◌, ◌++◌, length, get_or, drop, map, refl, sym, ap, ◌∙◌, arith, drop-cons}
 use Rattle.std.specs.Prelude.{filter}
 use Rattle.table_def.specs.declared.parts.ColumnPart.{ColumnPart}
 use Rattle.table_def.specs.declared.parts.TablePart.{TablePart}

@@ -1,11 +1,11 @@
 -- Columns that parts define are a definition that isn't a bad one.
-use Rattle.std.proofs.Common.{inl, inr, ◌≡◌, ℕ, zero, suc, ◌+◌, ◌<◌, ◌≤◌, Bool, true, false, cond, not, List, [], ◌∷◌, length, get_or, map, refl, sym, ap, ◌∙◌, arith, add_comm}
-use Rattle.std.specs.Prelude.{Result, Ok, Err, IfOk, pos, negsuc, filter, ◌==◌, ◌||◌, ◌&&◌, nat_le}
-use Rattle.std.specs.List.{list_all, list_any, range_with_len}
+use Rattle.std.proofs.Common.{◌↔◌, ◌≡◌, ℕ, zero, suc, ◌+◌, ◌<◌, ◌≤◌, Bool, true, false, cond, not, List, [], ◌∷◌, length, get_or, map, refl, sym, ap, ◌∙◌, arith, add_comm}
+use Rattle.std.specs.Prelude.{Result, Ok, Err, IfOk, pos, negsuc, filter, ◌==◌, ◌||◌, nat_le}
+use Rattle.std.specs.List.{list_all, range_with_len}
 use Rattle.std.specs.Str.{bytes_eq}
 use Rattle.std.proofs.lemmas.List.{length-map}
 use Rattle.std.proofs.lemmas.List.Folds.{list_any_at}
-use Rattle.std.proofs.lemmas.Bool.{and_from, and_parts, or_parts, not-false, le-leb, leb-true, eq-eqb, false_from_ne_true, both_ways}
+use Rattle.std.proofs.lemmas.Bool.{and_from, and_parts, or_parts, not-false, le-leb, eq-eqb, false_from_ne_true, both_ways, false≢true, true_from_ne_false, cond-true, cond-false}
 use Rattle.std.proofs.lemmas.Bool.Decides.{nat_tests}
 use Rattle.page_base.specs.declared.column.Column.{Column}
 use Rattle.plain_model.specs.Sound.{are_distinct, are_columns, is_definition, is_column, is_type, has_place}
@@ -110,3 +110,19 @@ pub good_result : {E : Type 0} (parts : List TablePart) (r : Result (List Column
     → IfOk r (λ cols. cols ≡ map (column_of (key_of parts)) (written parts)) → IfOk r (λ cols. are_columns cols ≡ true)
 good_result parts (Ok cols) few good is = ap are_columns is ∙ by_cases false parts few good
 good_result parts (Err e) few good is = tt
+
+-- a good definition has columns
+some_columns : (parts : List TablePart) → is_bad parts ≡ false → map (column_of (key_of parts)) (written parts) ≡ [] → ⊥
+some_columns parts fine none =
+    let behind = or_parts (lacks_one_key parts) _ fine in
+    let good = or_parts (is_bad_key (key_of parts) (written parts)) (are_bad_columns (written parts)) behind.1 in
+    let empty : length (written parts) ≡ 0 = sym (length-map (written parts) (column_of (key_of parts))) ∙ ap length none in
+    let defined = is_good (key_of parts) (written parts) (omega (arith, empty)) good.0 good.1 in
+    false≢true (sym (ap is_definition none) ∙ defined)
+
+-- parts define no columns where the definition is a bad one, and only there
+pub none_where_bad : (parts : List TablePart) → (columns_of parts ≡ []) ↔ (is_bad parts ≡ true)
+none_where_bad parts = (
+  λ none. true_from_ne_false _ (λ fine. some_columns parts fine (sym (cond-false (is_bad parts) [] (map (column_of (key_of parts)) (written parts)) fine) ∙ none)),
+  λ bad. cond-true (is_bad parts) [] (map (column_of (key_of parts)) (written parts)) bad,
+)

@@ -13,5 +13,5 @@ mod parts;
 mod tests;
 
 pub use columns::columns_of;
-pub use law::defined_columns_are_good;
+pub use law::{defined_columns_are_good, no_columns_are_those_of_a_bad_definition};
 pub use parts::{ColumnOption, ColumnPart, OptionList, TablePart, TableParts, WrittenType};

@@ -1,4 +1,4 @@
-use Rattle.std.proofs.Common.{◌∙◌, sym, rules, arith}
+use Rattle.std.proofs.Common.{◌∙◌, sym, arith}
 use Rattle.std.specs.Prelude.{filter, length, ◌<◌}
 use Rattle.table_def.specs.Options.{is_primary_key}
 use Rattle.table_def.proofs.FirstKey.{own_key}
