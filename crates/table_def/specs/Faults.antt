@@ -17,7 +17,7 @@ has_name_twice columns = not (are_distinct (names_in columns))
 abbrev pub contradicts : ColumnPart → Bool
 contradicts c = says_null c && says_not_null c
 
--- one of the columns is
+-- one of the columns is declared NULL and NOT NULL
 abbrev pub has_contradiction : List ColumnPart → Bool
 has_contradiction columns = list_any contradicts columns
 
@@ -25,11 +25,11 @@ has_contradiction columns = list_any contradicts columns
 abbrev pub is_bad_length : ColumnPart → Bool
 is_bad_length c = not (has_length c.kind)
 
--- one of the columns is
+-- one of the columns is such a VARCHAR
 abbrev pub has_bad_length : List ColumnPart → Bool
 has_bad_length columns = list_any is_bad_length columns
 
--- the key has more than 16 columns, or none, as no PRIMARY KEY is written
+-- the key has more than 16 columns, or none, as can't be written
 abbrev pub has_wrong_size : List (List ℕ) → Bool
 has_wrong_size key = not (nat_le 1 (length key) && nat_le (length key) 16)
 
@@ -45,7 +45,7 @@ has_unknown key names = list_any (λ name. not (is_among names name)) key
 abbrev pub is_null_key : List (List ℕ) → ColumnPart → Bool
 is_null_key key c = says_null c && is_among key c.name
 
--- one of the columns is such a one
+-- one of the columns is in the key and declared NULL
 abbrev pub has_null_key : List (List ℕ) → List ColumnPart → Bool
 has_null_key key columns = list_any (is_null_key key) columns
 
@@ -58,6 +58,6 @@ is_bad_key key columns =
 abbrev pub are_bad_columns : List ColumnPart → Bool
 are_bad_columns columns = has_name_twice columns || (has_contradiction columns || has_bad_length columns)
 
--- a bad definition
+-- a definition is a bad one by its PRIMARY KEYs, by its key beside its columns, or by its columns
 abbrev pub is_bad : List TablePart → Bool
 is_bad parts = lacks_one_key parts || (is_bad_key (key_of parts) (written parts) || are_bad_columns (written parts))

@@ -48,7 +48,8 @@ fn columns_beside(alloc: Global, key: &[Name], parts: &TableParts) -> Result<Col
     Ok(cols)
 }
 
-/// The columns that the parts define, in order; none where the definition is a bad one.
+/// The columns that the parts define, in order; none where the definition is a bad one. At most 64 parts may be columns;
+/// PRIMARY KEY parts and their names may be any number.
 pub fn columns_of(alloc: Global, parts: &TableParts) -> Result<Columns, NoMemory>
     requires { length (written parts.now) ≤ 64 }
     ensures columns { IfOk result (λ cols. cols ≡ columns_of parts.now) }
