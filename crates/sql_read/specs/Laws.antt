@@ -1,16 +1,18 @@
--- What the grammar promises of itself: one reading, one place.
-use Rattle.std.specs.Prelude.{ℕ, ◌≡◌, List, ◌∷◌, ◌++◌}
+-- What the grammar promises of batches: one reading, one place.
+use Rattle.std.specs.Prelude.{ℕ, ◌≡◌, List, length}
 use Rattle.plain_model.specs.declared.stmt.Stmt.{Stmt}
-use Rattle.sql_lex.specs.declared.token.Token.{Token}
-use Rattle.sql_lex.specs.Tokens.{kinds}
 use Rattle.sql_read.specs.Grammar.{IsBatch}
-use Rattle.sql_read.specs.Place.{IsWrong}
+use Rattle.sql_read.specs.Place.{IsRefusedAt}
+use Rattle.sql_read.specs.StmtPlace.{IsStmtPlace}
 
--- a batch has one list of statements
-abbrev pub HasOneReading : List ℕ → Type 0
-HasOneReading batch = (ss us : List Stmt) → IsBatch batch ss → IsBatch batch us → ss ≡ us
+-- a batch has one number of statements
+abbrev pub HasOneLength : List ℕ → Type 0
+HasOneLength bytes = (ss us : List Stmt) → IsBatch bytes ss → IsBatch bytes us → length ss ≡ length us
 
--- of the tokens of a batch one at most is the wrong one
-abbrev pub HasOnePlace : List Token → Type 0
-HasOnePlace ts = (front more : List Token) (t u : Token) (rest others : List Token)
-    → ts ≡ front ++ t ∷ rest → ts ≡ more ++ u ∷ others → IsWrong (kinds front) t.kind → IsWrong (kinds more) u.kind → (front ≡ more) × (t ≡ u)
+-- a refusal has one place
+abbrev pub HasOnePlace : List ℕ → Type 0
+HasOnePlace bytes = (a b : ℕ) → IsRefusedAt bytes a → IsRefusedAt bytes b → a ≡ b
+
+-- a statement has one place
+abbrev pub HasOneStmtPlace : List ℕ → ℕ → Type 0
+HasOneStmtPlace bytes n = (a b : ℕ) → IsStmtPlace bytes n a → IsStmtPlace bytes n b → a ≡ b

@@ -1,6 +1,4 @@
 pub mod Grammar
-pub mod Table
 pub mod Place
-pub mod Steps
-pub mod Laws
 pub mod StmtPlace
+pub mod Laws

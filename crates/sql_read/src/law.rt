@@ -1,15 +1,19 @@
-//! What the grammar promises of itself, as functions whose contracts say it.
+//! What the grammar promises of batches, as functions whose contracts say it.
 
 ghost use Rattle.std.specs.Prelude.{ℕ, List};
-ghost use Rattle.sql_lex.specs.declared.token.Token.{Token};
-ghost use Rattle.sql_read.specs.Laws.{HasOneReading, HasOnePlace};
+ghost use Rattle.sql_read.specs.Laws.{HasOneLength, HasOnePlace, HasOneStmtPlace};
 
-/// A batch has one list of statements.
-pub fn batches_have_one_reading()
-    ensures { (batch : List ℕ) → HasOneReading batch }
+/// A batch has one number of statements.
+pub fn batches_have_one_length()
+    ensures { (bytes : List ℕ) → HasOneLength bytes }
 {}
 
-/// Of some tokens one at most is the first that can't stand, or the first of a 65th part.
+/// A batch that is refused is refused at one place.
 pub fn refusals_have_one_place()
-    ensures { (tokens : List Token) → HasOnePlace tokens }
+    ensures { (bytes : List ℕ) → HasOnePlace bytes }
+{}
+
+/// A statement has one place.
+pub fn statements_have_one_place()
+    ensures { (bytes : List ℕ) (n : ℕ) → HasOneStmtPlace bytes n }
 {}

@@ -1,22 +1,29 @@
 //! Where in a batch a statement begins, for refusals that count statements.
 
-ghost use Rattle.std.specs.Prelude.{◌<◌, ℕ, List, length, IfOk};
-ghost use Rattle.sql_lex.specs.Tokens.{kinds};
-ghost use Rattle.sql_read.specs.StmtPlace.{PassesOne, IsStmtPlace, HasOneStmtPlace};
+ghost use Rattle.std.specs.Prelude.{◌<◌, length, IfOk};
+ghost use Rattle.sql_read.specs.StmtPlace.{IsStmtPlace};
 
-use crate::parser::Parser;
-use sql_lex::{ParseRefusal, token_count, token_place};
+use plain_model::Stmt;
+use sql_lex::{ParseRefusal, Tokens};
+use sql_stmt::{ended, is_statement_ahead};
 use std::alloc::Global;
 
-// Reads a statement, and forgets it.
-fn pass_statement(alloc: Global, parser: &mut Parser) -> Result<(), ParseRefusal>
-    ensures { IfOk result (λ _. PassesOne (kinds parser.old) (kinds parser.new)) }
-{
-    if parser.is_at_end() {
-        return Err(parser.refused());
+// The refusal at the next token.
+fn refused(tokens: &Tokens<'_>) -> ParseRefusal {
+    ParseRefusal::Syntax {
+        at: tokens.next().at,
     }
-    let _stmt = parser.statement(alloc)?;
-    Ok(())
+}
+
+// Reads a statement, behind which another must begin.
+fn passed(alloc: Global, tokens: &mut Tokens<'_>) -> Result<Stmt, ParseRefusal>
+    ensures { IfOk result (λ _. Passes tokens.old tokens.new) }
+{
+    let stmt = ended(alloc, tokens)?;
+    if !is_statement_ahead(tokens) {
+        return Err(refused(tokens));
+    }
+    Ok(stmt)
 }
 
 /// The place of the first token of a statement, counted from 0. For 0 it is that of the first token of any batch. When an error
@@ -25,14 +32,9 @@ pub fn statement_place(alloc: Global, batch: &[u8], number: usize) -> Result<u32
     requires { length batch.now < 4294967295 }
     ensures { IfOk result (IsStmtPlace batch.now number) }
 {
-    let mut parser = Parser::new(batch);
+    let mut tokens = Tokens::new(batch);
     for _ in 0..number {
-        pass_statement(alloc, &mut parser)?;
+        let _stmt = passed(alloc, &mut tokens)?;
     }
-    Ok(token_place(batch, token_count(batch, 0) - parser.tokens_left()))
+    Ok(tokens.next().at)
 }
-
-/// A statement has one place.
-pub fn statements_have_one_place()
-    ensures { (batch : List ℕ) (n : ℕ) → HasOneStmtPlace batch n }
-{}
