@@ -1,6 +1,14 @@
 pub mod Tree
 pub mod Shape
 pub mod Sound
+pub mod Numbers
+pub mod Comparing
+pub mod Logic
+pub mod Cells
+pub mod Values
+pub mod Truths
+pub mod Types
+pub mod Names
 pub mod Tables
 pub mod Journal
 pub mod State

@@ -18,8 +18,9 @@ mod values;
 pub use law::{
     an_overflow_is_that_of_the_whole, between_is_two_comparisons, in_is_equalities, or_is_not_and,
 };
+pub use plain_model::ExprType;
 pub use refusal::EvalRefusal;
 pub use truths::truth;
-pub use types::{ExprType, TypeRefusal};
+pub use types::TypeRefusal;
 pub use typing::type_of;
 pub use values::value;
