@@ -10,6 +10,17 @@ pub mod Truths
 pub mod Types
 pub mod Names
 pub mod Tables
+pub mod Messages
+pub mod Sizes
+pub mod Storing
+pub mod Outcomes
+pub mod Sorting
+pub mod Selecting
+pub mod Totals
+pub mod Inserting
+pub mod Changing
+pub mod Shapes
+pub mod Statements
 pub mod Journal
 pub mod State
 pub mod Holding
