@@ -2,7 +2,7 @@
 use Rattle.std.specs.Prelude.{Bool, true, false, if◌then◌else◌, List, [], ◌∷◌}
 use Rattle.std.specs.declared.cmp.Ordering.{Ordering}
 use Rattle.std.specs.declared.cmp.Ordering.TheVariants.{Equal}
-use Rattle.std.specs.Ordering.{is_lt, ordering_then, ordering_reverse}
+use Rattle.std.specs.Ordering.{is_lt, ordering_then, flip_args}
 use Rattle.page_base.specs.declared.column.Column.{Column}
 use Rattle.page_base.specs.declared.value.Value.{Value}
 use Rattle.page_base.specs.Order.{value_cmp}
@@ -19,15 +19,15 @@ abbrev pub sorted_by : {X : Type 0} → (X → X → Bool) → List X → List X
 sorted_by less [] = []
 sorted_by less (x ∷ xs) = placed less x (sorted_by less xs)
 
--- the order of a column, or the other way round for DESC
-abbrev pub directed : Bool → Ordering → Ordering
-directed false order = order
-directed true order = ordering_reverse order
+-- the order of two values of a column, where NULL is the least value; for DESC the other way round
+abbrev pub directed : Bool → Value → Value → Ordering
+directed false = value_cmp
+directed true = flip_args value_cmp
 
--- the order of two rows: by the first ORDER BY column in which they differ, where NULL is the least value
+-- the order of two rows: by the first ORDER BY column in which they differ
 abbrev pub row_cmp : List Column → List OrderItem → List Value → List Value → Ordering
 row_cmp cols [] a b = Equal
-row_cmp cols (item ∷ items) a b = ordering_then (directed item.down (value_cmp (cell cols a item.col) (cell cols b item.col))) (row_cmp cols items a b)
+row_cmp cols (item ∷ items) a b = ordering_then (directed item.down (cell cols a item.col) (cell cols b item.col)) (row_cmp cols items a b)
 
 -- whether one row must stand before the other
 abbrev pub is_before : List Column → List OrderItem → List Value → List Value → Bool
