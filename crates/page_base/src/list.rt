@@ -56,6 +56,13 @@ impl<T> ListOf<T> {
         &self.items[place]
     }
 
+    /// The elements as a `Vec`. Takes no memory.
+    pub fn into_vec(self) -> Vec<T>
+        ensures { result.items ≡ self }
+    {
+        self.items
+    }
+
     /// All elements, in order.
     pub fn as_slice(&self) -> &[T]
         ensures { result.now ≡ self.now }

@@ -3,6 +3,7 @@
 
 mod event;
 mod expr;
+mod expr_type;
 mod kind;
 mod pick;
 mod reply;
@@ -11,6 +12,7 @@ mod stmt;
 
 pub use event::{Book, Event, LockName};
 pub use expr::{CompareOp, Expr, InRest, MathOp};
+pub use expr_type::ExprType;
 pub use kind::Kind;
 pub use pick::{Pick, PickList, Until};
 pub use reply::{Carried, Message, Reply};

@@ -8,9 +8,9 @@ use Rattle.plain_model.specs.declared.expr.CompareOp.TheVariants.{Eq, Le, Ge}
 use Rattle.page_base.specs.declared.column.Column.{Column}
 use Rattle.page_base.specs.declared.value.Value.{Value}
 use Rattle.sql_eval.specs.Laws.{IsEntry, IsValuePart, IsTruthPart, Overflows}
-use Rattle.sql_eval.specs.Numbers.{math}
-use Rattle.sql_eval.specs.Truths.{truth_of, comparison, among}
-use Rattle.sql_eval.specs.Values.{value_of, both}
+use Rattle.plain_model.specs.Numbers.{math}
+use Rattle.plain_model.specs.Truths.{truth_of, comparison, among}
+use Rattle.plain_model.specs.Values.{value_of, both}
 
 -- of two, the first is an overflow
 pub both-left : {A B C : Type 0} (f : A → B → Option C) (a : Option A) (b : Option B) → a ≡ None → both f a b ≡ None

@@ -1,2 +1,4 @@
 pub mod Finding
 pub mod LawLemmas
+pub mod SortLemmas
+pub mod RowOrder

@@ -4,8 +4,8 @@ use Rattle.plain_model.specs.Tree.{Tree, Entries}
 use Rattle.plain_model.specs.Tree as tree
 use Rattle.page_base.specs.declared.column.Column.{Column}
 use Rattle.page_base.specs.declared.value.Value.{Value}
-use Rattle.sql_eval.specs.Truths.{truth_of}
-use Rattle.sql_eval.specs.Values.{value_of}
+use Rattle.plain_model.specs.Truths.{truth_of}
+use Rattle.plain_model.specs.Values.{value_of}
 
 -- an expression is one of the entries of an IN
 abbrev pub IsEntry : Tree → Entries → Type 0

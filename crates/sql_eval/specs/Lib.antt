@@ -1,11 +1,3 @@
-pub mod Numbers
-pub mod Comparing
-pub mod Logic
-pub mod Cells
 pub mod Given
-pub mod Values
-pub mod Truths
-pub mod Types
-pub mod Names
 pub mod Typed
 pub mod Laws

@@ -4,11 +4,11 @@ use Rattle.std.specs.declared.result.Result.{Result}
 use Rattle.std.specs.declared.result.Result.TheVariants.{Ok, Err}
 use Rattle.plain_model.specs.Tree.{Tree}
 use Rattle.page_base.specs.declared.column.Column as column
-use Rattle.sql_eval.specs.declared.types.ExprType.{ExprType}
+use Rattle.plain_model.specs.declared.expr_type.ExprType.{ExprType}
 use Rattle.sql_eval.specs.declared.types.TypeRefusal.{TypeRefusal}
 use Rattle.sql_eval.specs.declared.types.TypeRefusal.TheVariants.{Column, Kind, Memory}
-use Rattle.sql_eval.specs.Names.{first_unknown}
-use Rattle.sql_eval.specs.Types.{tree_type}
+use Rattle.plain_model.specs.Names.{first_unknown}
+use Rattle.plain_model.specs.Types.{tree_type}
 
 -- all names are columns, and the type is as given
 abbrev pub HasType : List column.Column → Tree → Option ExprType → Type 0

@@ -1,7 +1,7 @@
 //! The comparison of two values.
 
 ghost use Rattle.std.specs.Prelude.{◌≡◌};
-ghost use Rattle.sql_eval.specs.Comparing.{order_of, holds, compared, null_test};
+ghost use Rattle.plain_model.specs.Comparing.{order_of, holds, compared, null_test};
 
 use page_base::{Truth, Value};
 use plain_model::CompareOp;

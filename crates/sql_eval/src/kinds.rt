@@ -1,7 +1,7 @@
 //! The rules for types, each of the types of the parts.
 
 ghost use Rattle.std.specs.Prelude.{◌≡◌};
-ghost use Rattle.sql_eval.specs.Types.{literal_type, from_column, column_type, math_type, comparison_type, null_test_type, logic_type, is_number_type, is_text_type, is_big_type, is_truth_type};
+ghost use Rattle.plain_model.specs.Types.{literal_type, from_column, column_type, math_type, comparison_type, null_test_type, logic_type, is_number_type, is_text_type, is_big_type, is_truth_type};
 
 use crate::ExprType;
 use page_base::{ColType, Columns, Name};

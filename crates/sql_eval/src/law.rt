@@ -7,9 +7,9 @@ ghost use Rattle.page_base.specs.declared.value.Truth.{Truth};
 ghost use Rattle.plain_model.specs.Tree.{Tree, Entries, Compare, Between, In, And, Or, Last, More};
 ghost use Rattle.plain_model.specs.declared.expr.CompareOp.TheVariants.{Eq, Le, Ge};
 ghost use Rattle.sql_eval.specs.Laws.{IsValuePart, IsTruthPart, Overflows};
-ghost use Rattle.sql_eval.specs.Logic.{and3, or3, not3};
-ghost use Rattle.sql_eval.specs.Truths.{truth_of};
-ghost use Rattle.sql_eval.specs.Values.{value_of};
+ghost use Rattle.plain_model.specs.Logic.{and3, or3, not3};
+ghost use Rattle.plain_model.specs.Truths.{truth_of};
+ghost use Rattle.plain_model.specs.Values.{value_of};
 
 /// `x BETWEEN a AND b` is `x >= a AND x <= b`.
 pub fn between_is_two_comparisons()

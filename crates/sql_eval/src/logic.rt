@@ -1,7 +1,7 @@
 //! AND, OR and NOT of three-valued logic.
 
 ghost use Rattle.std.specs.Prelude.{◌≡◌};
-ghost use Rattle.sql_eval.specs.Logic.{and3, or3, not3};
+ghost use Rattle.plain_model.specs.Logic.{and3, or3, not3};
 
 use page_base::Truth;
 

@@ -2,7 +2,7 @@
 
 ghost use Rattle.std.specs.Prelude.{◌≡◌, SomeIff, FitsSigned};
 ghost use Rattle.std.specs.Int.{w64};
-ghost use Rattle.sql_eval.specs.Numbers.{literal, stored, number_in, is_big, exact, math, opposite};
+ghost use Rattle.plain_model.specs.Numbers.{literal, stored, number_in, is_big, exact, math, opposite};
 
 use page_base::Value;
 use plain_model::MathOp;

@@ -2,7 +2,7 @@
 
 ghost use Rattle.std.specs.Prelude.{◌≡◌};
 ghost use Rattle.plain_model.specs.Tree.{tree_of, entries_of};
-ghost use Rattle.sql_eval.specs.Names.{first_unknown, first_unknown_in, is_unknown};
+ghost use Rattle.plain_model.specs.Names.{first_unknown, first_unknown_in, is_unknown};
 
 use crate::values::place_of;
 use page_base::{Columns, Name};

@@ -3,7 +3,7 @@
 ghost use Rattle.std.specs.Prelude.{◌≡◌};
 ghost use Rattle.plain_model.specs.Tree.{tree_of, entries_of};
 ghost use Rattle.sql_eval.specs.Given.{Gives};
-ghost use Rattle.sql_eval.specs.Truths.{comparison, among, truth_of};
+ghost use Rattle.plain_model.specs.Truths.{comparison, among, truth_of};
 
 use crate::EvalRefusal;
 use crate::compare::{compared, null_test};

@@ -1,17 +1,7 @@
-//! The types of expressions, and why one has none.
+//! Why an expression has no type.
 
 use page_base::Name;
 use thiserror::Error;
-
-/// The type of an expression: a number's, VARCHAR, that of a bare NULL, which fits every type, or a truth.
-#[derive(Clone, Copy, Debug, PartialEq, Eq)]
-pub enum ExprType {
-    Int,
-    Big,
-    Text,
-    Any,
-    Truth,
-}
 
 /// Why an expression has no type.
 #[derive(Clone, Copy, Debug, PartialEq, Eq, Error)]

@@ -2,7 +2,7 @@
 
 ghost use Rattle.std.specs.Prelude.{◌≡◌};
 ghost use Rattle.plain_model.specs.Tree.{tree_of, entries_of};
-ghost use Rattle.sql_eval.specs.Types.{tree_type, entries_type};
+ghost use Rattle.plain_model.specs.Types.{tree_type, entries_type};
 ghost use Rattle.sql_eval.specs.Typed.{Typed};
 
 use crate::kinds::{

@@ -3,9 +3,9 @@
 ghost use Rattle.std.specs.Prelude.{◌≡◌, IfOk, slice_index_or};
 ghost use Rattle.page_base.specs.declared.value.Value.TheVariants.{Null};
 ghost use Rattle.plain_model.specs.Tree.{tree_of};
-ghost use Rattle.sql_eval.specs.Cells.{cell, place_of};
+ghost use Rattle.plain_model.specs.Cells.{cell, place_of};
 ghost use Rattle.sql_eval.specs.Given.{Gives};
-ghost use Rattle.sql_eval.specs.Values.{value_of};
+ghost use Rattle.plain_model.specs.Values.{value_of};
 
 use crate::EvalRefusal;
 use crate::math::{literal, math, opposite};

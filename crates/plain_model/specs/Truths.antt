@@ -8,9 +8,9 @@ use Rattle.page_base.specs.declared.column.Column.{Column}
 use Rattle.page_base.specs.declared.value.Value.{Value}
 use Rattle.page_base.specs.declared.value.Truth.{Truth}
 use Rattle.page_base.specs.declared.value.Truth.TheVariants.{Unknown}
-use Rattle.sql_eval.specs.Comparing.{compared, null_test}
-use Rattle.sql_eval.specs.Logic.{and3, or3, not3}
-use Rattle.sql_eval.specs.Values.{value_of, both}
+use Rattle.plain_model.specs.Comparing.{compared, null_test}
+use Rattle.plain_model.specs.Logic.{and3, or3, not3}
+use Rattle.plain_model.specs.Values.{value_of, both}
 
 -- two values compared
 abbrev pub comparison : List Column → List Value → CompareOp → Tree → Tree → Option Truth

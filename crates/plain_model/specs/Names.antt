@@ -3,7 +3,7 @@ use Rattle.std.specs.Prelude.{ℕ, List, [], ◌∷◌, ◌++◌, Bool, not, is_
 use Rattle.plain_model.specs.Tree.{Tree, Entries}
 use Rattle.plain_model.specs.Tree as tree
 use Rattle.page_base.specs.declared.column.Column.{Column}
-use Rattle.sql_eval.specs.Cells.{place_of}
+use Rattle.plain_model.specs.Cells.{place_of}
 
 abbrev mutual
   -- the names that stand in a tree, from the left

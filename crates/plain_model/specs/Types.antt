@@ -6,10 +6,10 @@ use Rattle.plain_model.specs.Tree as tree
 use Rattle.page_base.specs.declared.column.Column.{Column}
 use Rattle.page_base.specs.declared.column.ColType.{ColType}
 use Rattle.page_base.specs.declared.column.ColType.TheVariants as col
-use Rattle.sql_eval.specs.declared.types.ExprType.{ExprType}
-use Rattle.sql_eval.specs.declared.types.ExprType.TheVariants.{Int, Big, Text, Any, Truth}
-use Rattle.sql_eval.specs.Numbers.{fits_int}
-use Rattle.sql_eval.specs.Values.{both}
+use Rattle.plain_model.specs.declared.expr_type.ExprType.{ExprType}
+use Rattle.plain_model.specs.declared.expr_type.ExprType.TheVariants.{Int, Big, Text, Any, Truth}
+use Rattle.plain_model.specs.Numbers.{fits_int}
+use Rattle.plain_model.specs.Values.{both}
 
 -- whether a type fits where a number stands
 abbrev pub is_number_type : ExprType → Bool

@@ -5,8 +5,8 @@ use Rattle.plain_model.specs.Tree as tree
 use Rattle.page_base.specs.declared.column.Column.{Column}
 use Rattle.page_base.specs.declared.value.Value.{Value}
 use Rattle.page_base.specs.declared.value.Value.TheVariants.{Null, Text}
-use Rattle.sql_eval.specs.Numbers.{literal, math, opposite}
-use Rattle.sql_eval.specs.Cells.{cell}
+use Rattle.plain_model.specs.Numbers.{literal, math, opposite}
+use Rattle.plain_model.specs.Cells.{cell}
 
 -- both, where neither is an overflow
 abbrev pub both : {A B C : Type 0} → (A → B → Option C) → Option A → Option B → Option C
