@@ -4,7 +4,7 @@ ghost use Rattle.std.specs.Prelude.{◌≡◌, ◌++◌, ◌∷◌, [], ◌<◌,
 ghost use Rattle.plain_model.specs.Sound.{is_sound, are_sound, AreScripts};
 
 use crate::Stmt;
-use page_base::NoMemory;
+use page_base::{ListOf, NoMemory};
 use std::alloc::Global;
 use std::marker::Model;
 
@@ -37,6 +37,16 @@ impl StmtList {
     {
         StmtList {
             stmts: Vec::new(alloc),
+        }
+    }
+
+    /// These statements, each a sound one. Takes no memory.
+    pub fn of(stmts: ListOf<Stmt>) -> Self
+        requires { are_sound stmts ≡ true }
+        ensures { result ≡ stmts }
+    {
+        StmtList {
+            stmts: stmts.into_vec(),
         }
     }
 

@@ -1,17 +1,19 @@
 -- What a batch among lines says, and what its refusal is.
 use Rattle.std.proofs.Common.{◌≡◌, ℕ, suc, ◌+◌, ◌-◌, ◌<◌, ◌≤◌, Bool, true, false, cond, List, [], ◌∷◌, ◌++◌, length, arith, ap, sym, ◌∙◌, refl, inl, inr, ◌⊎◌, subst, add-zero, Option}
-use Rattle.std.specs.Prelude.{Some, None, ◌&&◌, nat_le}
+use Rattle.std.specs.Prelude.{Some, None, ◌&&◌, nat_le, map}
 use Rattle.std.specs.List.{list_all}
 use Rattle.std.proofs.lemmas.Bool.{leb-true, leb-false}
 use Rattle.std.proofs.lemmas.List.Folds.{list_all-append}
 use Rattle.plain_model.specs.declared.stmt.Stmt.{Stmt}
 use Rattle.plain_model.specs.declared.stmt.Stmt.TheVariants.{Broken}
-use Rattle.sql_lex.specs.declared.token.Token.{Token}
 use Rattle.sql_lex.specs.declared.token.TokenKind.TheVariants.{End}
 use Rattle.sql_lex.specs.Tokens.{token, end}
 use Rattle.sql_lex.proofs.Cutting.{one_cutting}
-use Rattle.sql_read.proofs.LawLemmas.{one_reading, one_place}
-use Rattle.sql_read.proofs.StmtPlaces.{one_stmt_place}
+use Rattle.sql_read.specs.Bare.{bare}
+use Rattle.std.proofs.lemmas.List.{length-map}
+use Rattle.sql_read.proofs.BareLemmas.{one_reading}
+use Rattle.sql_read.proofs.BatchLemmas.{one_place}
+use Rattle.sql_read.proofs.PlaceLemmas.{one_stmt_place}
 use Rattle.script_read.specs.declared.refusal.Why.{Why}
 use Rattle.script_read.specs.declared.refusal.Why.TheVariants as why
 use Rattle.script_read.specs.declared.refusal.ScriptRefusal.{ScriptRefusal}
@@ -97,24 +99,35 @@ past_from said number line [] h p = absurd p
 past_from said number line (batch ∷ rest) h (stmts, says, inl q) = past_from (said + length stmts) number line rest h.1 q.1
 past_from said number line (batch ∷ rest) h (stmts, says, inr q) = omega (arith, h.0, q.1.line_is)
 
--- a text says one list of statements
-pub says_one : (text : List ℕ) (s u : List Stmt) → SaysText text s → SaysText text u → s ≡ u
-says_one text s u (inl h) (inl i) = one_reading text s u h i
-says_one text s u (inl h) (inr (at, i, e)) = absurd (i.none s h)
-says_one text s u (inr (at, h, e)) (inl i) = absurd (h.none u i)
-says_one text s u (inr (at, h, e)) (inr (b, i, f)) =
-    let cut = one_cutting text in
-    let same = one_place cut.0 h.front i.front h.token i.token h.rest i.rest (sym (cut.2 _ h.lexes)) (sym (cut.2 _ i.lexes)) h.why i.why in
-    let place : at ≡ b = sym h.place ∙ ap (λ (t : Token). t.at) same.1 ∙ i.place in
-    e ∙ ap (λ n. Broken n ∷ []) place ∙ sym f
+-- a text says one list of statements, wherever the parts of their expressions lie in memory
+pub says_same : (text : List ℕ) (s u : List Stmt) → SaysText text s → SaysText text u → map bare s ≡ map bare u
+says_same text s u (inl h) (inl i) = one_reading text s u h i
+says_same text s u (inl h) (inr (at, i, e)) = absurd (i.none s h)
+says_same text s u (inr (at, h, e)) (inl i) = absurd (h.none u i)
+says_same text s u (inr (at, h, e)) (inr (b, i, f)) = ap (map bare) (e ∙ ap (λ n. Broken n ∷ []) (one_place text at b h i) ∙ sym f)
+
+-- so it says so many
+pub says_as_many : (text : List ℕ) (s u : List Stmt) → SaysText text s → SaysText text u → length s ≡ length u
+says_as_many text s u h i = sym (length-map s bare) ∙ ap length (says_same text s u h i) ∙ length-map u bare
 
 -- a statement begins on one line
 pub begins_one : (text : List ℕ) (first n a b : ℕ) → Begins text first n a → Begins text first n b → a ≡ b
 begins_one text first n a b h i = h.line_is ∙ ap (λ at. first + ends_before at text) (one_stmt_place text n h.at i.at h.place i.place) ∙ sym i.line_is
 
+none_left : (stmts : List Stmt) → map bare stmts ≡ [] → stmts ≡ []
+none_left [] h = refl
+none_left (s ∷ ss) h = cc
+
 -- no lines say nothing
 pub says_nothing : (stmts : List Stmt) → Says [] stmts → stmts ≡ []
-says_nothing stmts h = says_one [] stmts [] h (inl (record { tokens = token 0 End ∷ []; lexes = end 0; stmts_are = refl }))
+says_nothing stmts h =
+    none_left stmts (says_same [] stmts [] h (inl (record {
+      tokens = token 0 End ∷ [];
+      lexes = end 0;
+      value = [];
+      is = record { front = []; last = token 0 End; others = []; split = refl; ends = refl; is = refl };
+      says = tt;
+    })))
 
 -- a batch that says so many statements that they pass the limit has lines, so that the statement past it begins on one of them
 past_within : (said line number : ℕ) (lines : List (List ℕ)) (stmts : List Stmt) → list_all is_whole lines ≡ true → Says lines stmts → said ≤ 20000 → 20000 < said + length stmts
@@ -159,8 +172,8 @@ PastHere said number lines stmts rest m =
 
 past_here : (said number m : ℕ) (lines : List (List ℕ)) (stmts : List Stmt) (rest : List Batch) → Says lines stmts → IsPast said (batch_at number lines ∷ rest) m → PastHere said number lines stmts rest m
 past_here said number m lines stmts rest says (others, says2, p) =
-    let same : others ≡ stmts = says_one (joined lines) others stmts says2 says in
-    subst (λ (u : List Stmt). PastHere said number lines u rest m) same p
+    let same : length others ≡ length stmts = says_as_many (joined lines) others stmts says2 says in
+    subst (λ (k : ℕ). ((said + k ≤ 20000) × IsPast (said + k) rest m) ⊎ ((20000 < said + k) × Begins (joined lines) number (20000 - said) m)) same p
 
 -- the batch in front of other lines
 pub past_split : (n said number next m : ℕ) (lines new : List (List ℕ)) (stmts : List Stmt) → Facts said number next lines new stmts → Pasts said n number (lines ++ new) m

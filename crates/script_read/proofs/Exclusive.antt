@@ -21,7 +21,7 @@ use Rattle.script_read.specs.Refusal.{IsFirst, by_form, by_count, IsFirstOf, IsR
 use Rattle.script_read.specs.Script.{SayAll, ArePickLines, IsSchedule, none, schedule, AreSessions, IsScript}
 use Rattle.script_read.specs.Steps.{later, is_over, place_at, is_front, SkipsFront, RefusesLater, ReadsSessions, ReadsLast}
 use Rattle.script_read.proofs.BoolLemmas.{both_hold, both, is_false, not_true}
-use Rattle.script_read.proofs.Batches.{batches_split, says_one}
+use Rattle.script_read.proofs.Batches.{batches_split, says_as_many}
 use Rattle.script_read.proofs.Sessions.{is_plain, HasFirst, has_first, first_on}
 use Rattle.script_read.proofs.Written.{on_found}
 use Rattle.script_read.proofs.Whole.{place_more, place_form, place_later, schedule_form, schedule_place, front_form, front_batches, front_later, session_colon, skipped_no, text_of, sessions_refused}
@@ -121,17 +121,17 @@ parted n number (line ∷ body) rest plain over =
     let parts = both_hold (is_plain line) (list_all is_plain body) plain in
     parted_by (is_go line) n number line body rest refl (not_true (begins_with_colon line) parts.0) (parted n (number + 1) body rest parts.1 over)
 
-past_by : (said m : ℕ) (part : Batch) (more : List Batch) (us first : List Stmt) → us ≡ first → said + length first ≤ 20000
+past_by : (said m : ℕ) (part : Batch) (more : List Batch) (us first : List Stmt) → length us ≡ length first → said + length first ≤ 20000
     → ((said + length us ≤ 20000) × IsPast (said + length us) more m) ⊎ ((20000 < said + length us) × Begins (joined part.lines) part.line (20000 - said) m) → IsPast (said + length first) more m
-past_by said m part more us first e few (inl p) = subst (λ (s : List Stmt). IsPast (said + length s) more m) e p.1
-past_by said m part more us first e few (inr p) = absurd (omega (arith, p.0, few, ap length e))
+past_by said m part more us first e few (inl p) = subst (λ (k : ℕ). IsPast (said + k) more m) e p.1
+past_by said m part more us first e few (inr p) = absurd (omega (arith, p.0, few, e))
 
 -- batches that stay within the limit
 past_over : (said m : ℕ) (parts more : List Batch) (stmts : List Stmt) → SayAll (map (λ b. b.lines) parts) stmts → said + length stmts ≤ 20000 → IsPast said (parts ++ more) m → IsPast (said + length stmts) more m
 past_over said m [] more stmts h few p = rw (h, add-zero) p
 past_over said m (part ∷ parts) more stmts (first, rest, split, says, others) few (us, says2, p) =
     let long : length stmts ≡ length first + length rest = ap length split ∙ length-append first rest in
-    let same : us ≡ first = says_one (joined part.lines) us first says2 says in
+    let same : length us ≡ length first = says_as_many (joined part.lines) us first says2 says in
     let sum : said + length first + length rest ≡ said + length stmts = omega (arith, long) in
     let on : IsPast (said + length first) (parts ++ more) m = past_by said m part (parts ++ more) us first same (omega (arith, few, long)) p in
     subst (λ k. IsPast k more m) sum (past_over (said + length first) m parts more rest others (omega (arith, few, long)) on)

@@ -1,6 +1,7 @@
 -- One reading, one refusal.
 use Rattle.std.proofs.Common.{◌≡◌, ℕ, ◌+◌, Bool, true, List, [], ◌∷◌, ◌++◌, arith, ap, sym, ◌∙◌, refl, subst, Option}
-use Rattle.std.specs.Prelude.{Some, not, codes}
+use Rattle.std.specs.Prelude.{Some, not, codes, map}
+use Rattle.sql_read.specs.Bare.{bare}
 use Rattle.std.specs.List.{list_all, slice_split}
 use Rattle.plain_model.specs.declared.stmt.Stmt.{Stmt}
 use Rattle.plain_model.specs.declared.pick.Pick.{Pick}
@@ -13,7 +14,8 @@ use Rattle.script_read.specs.Script.{SayAll, ArePickLines, IsSchedule, none, sch
 use Rattle.script_read.specs.Steps.{is_over}
 use Rattle.script_read.specs.Laws.{HasOneReading, HasOneRefusal, ReadsAsWritten}
 use Rattle.script_read.proofs.BoolLemmas.{clash, both_hold}
-use Rattle.script_read.proofs.Batches.{says_one}
+use Rattle.std.proofs.lemmas.List.{map-append}
+use Rattle.script_read.proofs.Batches.{says_same}
 use Rattle.script_read.proofs.Sessions.{is_plain}
 use Rattle.script_read.proofs.Picking.{pick_is}
 use Rattle.script_read.proofs.Written.{pick_found, on_found}
@@ -53,12 +55,12 @@ seam test (l ∷ a) (m ∷ b) x y h i j k e =
     let rest = seam test a b x y (both_hold (test l) (list_all test a) h).1 (both_hold (test m) (list_all test b) i).1 j k tail in
     (rw (head, rest.0) refl, rest.1)
 
-say_one : (parts : List (List (List ℕ))) (s t : List Stmt) → SayAll parts s → SayAll parts t → s ≡ t
-say_one [] s t h i = h ∙ sym i
+say_one : (parts : List (List (List ℕ))) (s t : List Stmt) → SayAll parts s → SayAll parts t → map bare s ≡ map bare t
+say_one [] s t h i = ap (map bare) (h ∙ sym i)
 say_one (part ∷ parts) s t (first, rest, split, says, others) (first2, rest2, split2, says2, others2) =
-    let one : first ≡ first2 = says_one (joined part) first first2 says says2 in
-    let more : rest ≡ rest2 = say_one parts rest rest2 others others2 in
-    split ∙ ap (λ (u : List Stmt). u ++ rest) one ∙ ap (λ (u : List Stmt). first2 ++ u) more ∙ sym split2
+    let one : map bare first ≡ map bare first2 = says_same (joined part) first first2 says says2 in
+    let more : map bare rest ≡ map bare rest2 = say_one parts rest rest2 others others2 in
+    ap (map bare) split ∙ map-append bare first rest ∙ ap (λ us. us ++ map bare rest) one ∙ ap (λ us. map bare first2 ++ us) more ∙ sym (map-append bare first2 rest2) ∙ ap (map bare) (sym split2)
 
 pick_lines_one : (n : ℕ) (lines : List (List ℕ)) (p q : List Pick) → ArePickLines n lines p → ArePickLines n lines q → p ≡ q
 pick_lines_one n [] p q h i = h ∙ sym i
@@ -88,7 +90,7 @@ over_plain (line ∷ lines) h = rw h refl
 
 -- what sessions say
 pub record SameSessions (s t : List (List Stmt)) (p q : List Pick) : Type 0 where
-  pub scripts : s ≡ t
+  pub scripts : map (map bare) s ≡ map (map bare) t
   pub picks : p ≡ q
 
 sessions_one : (n : ℕ) (lines : List (List ℕ)) (s t : List (List Stmt)) (p q : List Pick) → AreSessions n lines s p → AreSessions n lines t q → SameSessions s t p q
@@ -99,7 +101,7 @@ sessions_one n lines (s ∷ ss) (t ∷ ts) p q (heading, body, rest, split, sess
     let whole : heading ∷ body ++ rest ≡ heading2 ∷ body2 ++ rest2 = sym split ∙ split2 in
     let tail : body ++ rest ≡ body2 ++ rest2 = cc in
     let parts = seam is_plain body body2 rest rest2 is.plain is2.plain (over_plain rest (sessions_over (n + 1) rest ss p others)) (over_plain rest2 (sessions_over (n + 1) rest2 ts q others2)) tail in
-    let one : s ≡ t = say_one (slice_split is_go body) s t is.says (subst (λ (b : List (List ℕ)). SayAll (slice_split is_go b) t) (sym parts.0) is2.says) in
+    let one : map bare s ≡ map bare t = say_one (slice_split is_go body) s t is.says (subst (λ (b : List (List ℕ)). SayAll (slice_split is_go b) t) (sym parts.0) is2.says) in
     let more : SameSessions ss ts p q = sessions_one (n + 1) rest ss ts p q others (subst (λ (ls : List (List ℕ)). AreSessions (n + 1) ls ts q) (sym parts.1) others2) in
     record { scripts = rw (one, more.scripts) refl; picks = more.picks }
 

@@ -4,7 +4,7 @@ ghost use Rattle.std.specs.Prelude.{ℕ, List};
 ghost use Rattle.plain_model.specs.declared.pick.Pick.{Pick};
 ghost use Rattle.script_read.specs.Laws.{HasOneReading, HasOneRefusal, ReadsAsWritten};
 
-/// A script says one thing.
+/// A script says one thing, wherever the parts of its expressions lie in memory.
 pub fn scripts_have_one_reading()
     ensures { (bytes : List ℕ) → HasOneReading bytes }
 {}

@@ -1,13 +1,14 @@
 -- What the grammar promises of batches: one reading, one place.
-use Rattle.std.specs.Prelude.{ℕ, ◌≡◌, List, length}
+use Rattle.std.specs.Prelude.{ℕ, ◌≡◌, List, map}
 use Rattle.plain_model.specs.declared.stmt.Stmt.{Stmt}
+use Rattle.sql_read.specs.Bare.{bare}
 use Rattle.sql_read.specs.Grammar.{IsBatch}
 use Rattle.sql_read.specs.Place.{IsRefusedAt}
 use Rattle.sql_read.specs.StmtPlace.{IsStmtPlace}
 
--- a batch has one number of statements
-abbrev pub HasOneLength : List ℕ → Type 0
-HasOneLength bytes = (ss us : List Stmt) → IsBatch bytes ss → IsBatch bytes us → length ss ≡ length us
+-- a batch has one list of statements, wherever the parts of their expressions lie in memory
+abbrev pub HasOneReading : List ℕ → Type 0
+HasOneReading bytes = (ss us : List Stmt) → IsBatch bytes ss → IsBatch bytes us → map bare ss ≡ map bare us
 
 -- a refusal has one place
 abbrev pub HasOnePlace : List ℕ → Type 0

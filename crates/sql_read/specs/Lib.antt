@@ -1,4 +1,5 @@
 pub mod Grammar
 pub mod Place
 pub mod StmtPlace
+pub mod Bare
 pub mod Laws

@@ -1,11 +1,11 @@
 //! What the grammar promises of batches, as functions whose contracts say it.
 
 ghost use Rattle.std.specs.Prelude.{ℕ, List};
-ghost use Rattle.sql_read.specs.Laws.{HasOneLength, HasOnePlace, HasOneStmtPlace};
+ghost use Rattle.sql_read.specs.Laws.{HasOneReading, HasOnePlace, HasOneStmtPlace};
 
-/// A batch has one number of statements.
-pub fn batches_have_one_length()
-    ensures { (bytes : List ℕ) → HasOneLength bytes }
+/// A batch has one list of statements, wherever the parts of their expressions lie in memory.
+pub fn batches_have_one_reading()
+    ensures { (bytes : List ℕ) → HasOneReading bytes }
 {}
 
 /// A batch that is refused is refused at one place.

@@ -1,9 +1,8 @@
 //! Where in a batch a statement begins, for refusals that count statements.
 
 ghost use Rattle.std.specs.Prelude.{◌<◌, length, IfOk};
-ghost use Rattle.sql_read.specs.StmtPlace.{IsStmtPlace};
+ghost use Rattle.sql_read.specs.StmtPlace.{Passes, IsStmtPlace};
 
-use plain_model::Stmt;
 use sql_lex::{ParseRefusal, Tokens};
 use sql_stmt::{ended, is_statement_ahead};
 use std::alloc::Global;
@@ -16,14 +15,14 @@ fn refused(tokens: &Tokens<'_>) -> ParseRefusal {
 }
 
 // Reads a statement, behind which another must begin.
-fn passed(alloc: Global, tokens: &mut Tokens<'_>) -> Result<Stmt, ParseRefusal>
+fn passed(alloc: Global, tokens: &mut Tokens<'_>) -> Result<(), ParseRefusal>
     ensures { IfOk result (λ _. Passes tokens.old tokens.new) }
 {
-    let stmt = ended(alloc, tokens)?;
+    let _stmt = ended(alloc, tokens)?;
     if !is_statement_ahead(tokens) {
         return Err(refused(tokens));
     }
-    Ok(stmt)
+    Ok(())
 }
 
 /// The place of the first token of a statement, counted from 0. For 0 it is that of the first token of any batch. When an error
@@ -34,7 +33,7 @@ pub fn statement_place(alloc: Global, batch: &[u8], number: usize) -> Result<u32
 {
     let mut tokens = Tokens::new(batch);
     for _ in 0..number {
-        let _stmt = passed(alloc, &mut tokens)?;
+        passed(alloc, &mut tokens)?;
     }
     Ok(tokens.next().at)
 }
