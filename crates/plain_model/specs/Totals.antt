@@ -1,5 +1,5 @@
 -- What a SELECT of aggregates answers over a table.
-use Rattle.std.specs.Prelude.{ℕ, ◌+◌, ℤ, pos, ◌+ℤ◌, Bool, true, false, List, [], ◌∷◌, map, length, slice_index_or, Option, Some, None}
+use Rattle.std.specs.Prelude.{ℕ, ◌+◌, ℤ, pos, ◌+ℤ◌, ◌==◌, if◌then◌else◌, Bool, true, false, List, [], ◌∷◌, map, length, slice_index_or, Option, Some, None}
 use Rattle.std.specs.List.{filter_map}
 use Rattle.std.specs.declared.result.Result.{Result}
 use Rattle.std.specs.declared.result.Result.TheVariants as result
@@ -29,8 +29,8 @@ argument cols row CountAll = Some Null
 argument cols row (SumOf e) = value_of cols row (tree_of e)
 
 -- a row that the filter keeps is taken by its arguments
-abbrev pub summed_row : List Column → Option Expr → List Sum → List Value → Outcome (List Value)
-summed_row cols filter sums row = behind (keeps cols filter row) (or_overflow (all_of (map (argument cols row) sums)))
+abbrev pub summed_row : List Sum → Option Expr → List Column → List Value → Outcome (List Value)
+summed_row sums filter cols row = behind (keeps cols filter row) (or_overflow (all_of (map (argument cols row) sums)))
 
 -- the exact sum
 abbrev pub total : List ℤ → ℤ
@@ -48,8 +48,7 @@ is_wide _ = false
 
 -- SUM of numbers of this type: NULL where there are none; none is an overflow
 abbrev pub sum_of : Option ExprType → List ℤ → Option Value
-sum_of type [] = Some Null
-sum_of type (n ∷ ns) = stored (is_wide type) (total (n ∷ ns))
+sum_of type numbers = if length numbers == 0 then Some Null else stored (is_wide type) (total numbers)
 
 -- what an aggregate comes to over the rows that were taken, by the arguments at its place; COUNT(*) is an INT
 abbrev pub aggregate : List Column → List (List Value) → ℕ → Sum → Option Value
@@ -73,4 +72,4 @@ totals_reply cols sums (result.Err m) = Msg m
 
 -- a SELECT of aggregates
 abbrev pub select_totals : List Sum → Option Expr → Table → Reply
-select_totals sums filter t = totals_reply t.cols sums (taken_from 1 (map (summed_row t.cols filter sums) (rows_of t)))
+select_totals sums filter t = totals_reply t.cols sums (taken_from 1 (map (summed_row sums filter t.cols) (rows_of t)))
