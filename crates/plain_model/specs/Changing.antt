@@ -6,7 +6,7 @@ use Rattle.page_base.specs.declared.value.Value.{Value}
 use Rattle.plain_model.specs.declared.expr.Expr.{Expr}
 use Rattle.plain_model.specs.declared.stmt.SetItem.{SetItem}
 use Rattle.plain_model.specs.Cells.{cell}
-use Rattle.plain_model.specs.Outcomes.{Outcome, Refused, Taken, all_of, keeps, behind}
+use Rattle.plain_model.specs.Outcomes.{Outcome, Refused, Taken, all_of, keeps, behind, unless_fault}
 use Rattle.plain_model.specs.Storing.{kept_as, row_fault}
 use Rattle.plain_model.specs.Tables.{key_of}
 use Rattle.plain_model.specs.Tree.{tree_of}
@@ -21,11 +21,6 @@ set_to (i ∷ sets) cols row c = if bytes_eq c.name i.col then option_and_then (
 -- a row after the SETs; none is an overflow
 abbrev pub set_row : List SetItem → List Column → List Value → Option (List Value)
 set_row sets cols row = all_of (map (set_to sets cols row) cols)
-
--- a row is taken unless something refuses it
-abbrev pub unless_fault : List Value → Option ℕ → Outcome (List Value)
-unless_fault row (Some number) = Refused number
-unless_fault row None = Taken row
 
 -- a row that is right by itself is taken
 abbrev pub if_right : List Column → Option (List Value) → Outcome (List Value)

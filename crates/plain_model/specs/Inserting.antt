@@ -4,6 +4,7 @@ use Rattle.std.specs.Str.{bytes_eq}
 use Rattle.std.specs.declared.result.Result.{Result}
 use Rattle.std.specs.declared.result.Result.TheVariants as result
 use Rattle.std.specs.List.{list_any}
+use Rattle.std.specs.Option.{option_or}
 use Rattle.std.specs.Ordering.{eq_by_cmp}
 use Rattle.page_base.specs.declared.column.Column.{Column}
 use Rattle.page_base.specs.declared.value.Value.{Value}
@@ -11,7 +12,7 @@ use Rattle.page_base.specs.declared.value.Value.TheVariants.{Null}
 use Rattle.page_base.specs.Order.{key_cmp}
 use Rattle.plain_model.specs.declared.expr.Expr.{Expr}
 use Rattle.plain_model.specs.declared.reply.Message.{Message}
-use Rattle.plain_model.specs.Outcomes.{Outcome, Refused, Taken, after_row, all_of}
+use Rattle.plain_model.specs.Outcomes.{Outcome, Refused, Taken, after_row, all_of, unless_fault}
 use Rattle.plain_model.specs.Storing.{kept_as, new_row_fault}
 use Rattle.plain_model.specs.Tables.{key_of}
 use Rattle.plain_model.specs.Tree.{tree_of}
@@ -36,15 +37,18 @@ new_row names cols exprs = all_of (map (λ c. option_and_then (kept_as c.kind) (
 abbrev pub is_among : List (List Value) → List Value → Bool
 is_among keys key = list_any (eq_by_cmp key_cmp key) keys
 
--- a row that is right by itself is taken unless its key is there
-abbrev pub unless_there : List Column → List (List Value) → List Value → Option ℕ → Outcome (List Value)
-unless_there cols keys row (Some number) = Refused number
-unless_there cols keys row None = if is_among keys (key_of cols row) then Refused 2627 else Taken row
+-- what refuses a key that is there
+abbrev pub key_clash : List (List Value) → List Value → Option ℕ
+key_clash keys key = if is_among keys key then Some 2627 else None
+
+-- what refuses a new row, where these keys are there: first the row by itself, then its key
+abbrev pub fault_among : List Column → List (List Value) → List Value → Option ℕ
+fault_among cols keys row = option_or (new_row_fault cols row) (key_clash keys (key_of cols row))
 
 -- what becomes of a new row, where these keys are there
 abbrev pub inserted_row : List Column → List (List Value) → Option (List Value) → Outcome (List Value)
 inserted_row cols keys None = Refused 8115
-inserted_row cols keys (Some row) = unless_there cols keys row (new_row_fault cols row)
+inserted_row cols keys (Some row) = unless_fault row (fault_among cols keys row)
 
 -- the keys with that of a row that was taken
 abbrev pub with_taken : List Column → List (List Value) → Outcome (List Value) → List (List Value)

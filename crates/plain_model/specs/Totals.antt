@@ -1,5 +1,5 @@
 -- What a SELECT of aggregates answers over a table.
-use Rattle.std.specs.Prelude.{ℕ, ◌+◌, ℤ, pos, ◌+ℤ◌, ◌==◌, if◌then◌else◌, Bool, true, false, List, [], ◌∷◌, map, length, slice_index_or, Option, Some, None}
+use Rattle.std.specs.Prelude.{ℕ, ◌+◌, ℤ, pos, ◌+ℤ◌, Bool, true, false, List, [], ◌∷◌, map, length, slice_index_or, Option, Some, None}
 use Rattle.std.specs.List.{filter_map}
 use Rattle.std.specs.declared.result.Result.{Result}
 use Rattle.std.specs.declared.result.Result.TheVariants as result
@@ -48,7 +48,8 @@ is_wide _ = false
 
 -- SUM of numbers of this type: NULL where there are none; none is an overflow
 abbrev pub sum_of : Option ExprType → List ℤ → Option Value
-sum_of type numbers = if length numbers == 0 then Some Null else stored (is_wide type) (total numbers)
+sum_of type [] = Some Null
+sum_of type (n ∷ ns) = stored (is_wide type) (total (n ∷ ns))
 
 -- what an aggregate comes to over the rows that were taken, by the arguments at its place; COUNT(*) is an INT
 abbrev pub aggregate : List Column → List (List Value) → ℕ → Sum → Option Value

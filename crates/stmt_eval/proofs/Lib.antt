@@ -2,4 +2,6 @@ pub mod KeyLemmas
 pub mod TakingLemmas
 pub mod GatheringLemmas
 pub mod TotalLemmas
+pub mod KeysLemmas
 pub mod InsertingLemmas
+pub mod TableLemmas

@@ -2,7 +2,7 @@
 
 ghost use Rattle.std.specs.Prelude.{◌≡◌, List, [], ◌∷◌, map, option_and_then, IfOk, OnOk};
 ghost use Rattle.page_base.specs.declared.value.Value.{Value};
-ghost use Rattle.plain_model.specs.Inserting.{given_for, new_row, inserted_from};
+ghost use Rattle.plain_model.specs.Inserting.{given_for, new_row, fault_among, inserted_from};
 ghost use Rattle.plain_model.specs.Storing.{kept_as};
 ghost use Rattle.plain_model.specs.Tables.{key_of};
 ghost use Rattle.plain_model.specs.Tree.{tree_of};
@@ -100,6 +100,21 @@ fn keys_of(alloc: Global, cols: &[Column], rows: &RowList) -> Result<BTreeSet<Ro
     Ok(keys)
 }
 
+// What refuses a new row of this key among others.
+fn fault_among(cols: &[Column], keys: &BTreeSet<Row>, row: &Row, key: &Row) -> Option<u32>
+    requires { key.now ≡ key_of cols.now row.now }
+    ensures { (others : List (List Value)) → HasKeys keys.now others → result ≡ fault_among cols.now others row.now }
+{
+    match new_row_fault(cols, row, key) {
+        Some(number) => Some(number),
+        None => if keys.contains(key) {
+            Some(2627)
+        } else {
+            None
+        },
+    }
+}
+
 // A new row, whose key comes among the others.
 fn next_row(
     alloc: Global,
@@ -112,14 +127,13 @@ fn next_row(
 {
     let row = new_row(alloc, names, cols, exprs)?;
     let key = key_of(alloc, cols.as_slice(), &row)?;
-    if let Some(number) = new_row_fault(cols.as_slice(), &row, &key) {
-        return Err(RowRefusal::Refused(number));
+    match fault_among(cols.as_slice(), keys, &row, &key) {
+        Some(number) => Err(RowRefusal::Refused(number)),
+        None => {
+            add_key(keys, key)?;
+            Ok(row)
+        }
     }
-    if keys.contains(&key) {
-        return Err(RowRefusal::Refused(2627));
-    }
-    add_key(keys, key)?;
-    Ok(row)
 }
 
 /// The new rows of an INSERT, or the refusal of the first that fails, with its place from 1. `rows` are the table's.

@@ -4,6 +4,7 @@ ghost use Rattle.std.specs.Prelude.{◌≡◌, ℕ, List, map, IfOk, [], Result}
 ghost use Rattle.page_base.specs.declared.value.Value.{Value};
 ghost use Rattle.plain_model.specs.declared.reply.Message.{Message};
 ghost use Rattle.plain_model.specs.declared.stmt.Stmt.TheVariants.{Insert, Select, Update, Delete};
+ghost use Rattle.plain_model.specs.Inserting.{target_names};
 ghost use Rattle.plain_model.specs.Messages.{plain};
 ghost use Rattle.plain_model.specs.Outcomes.{taken_from};
 ghost use Rattle.plain_model.specs.Selecting.{selected_row, rows_reply};
@@ -11,7 +12,7 @@ ghost use Rattle.plain_model.specs.Totals.{summed_row, totals_row, totals_reply}
 ghost use Rattle.plain_model.specs.Statements.{changes_of, selected};
 ghost use Rattle.plain_model.specs.Tables.{Table, IsTable, Put, Cut};
 ghost use Rattle.stmt_eval.specs.Given.{Takes};
-ghost use Rattle.stmt_eval.specs.Verdicts.{changes_in, IsVerdict};
+ghost use Rattle.stmt_eval.specs.Verdicts.{changes_in, IsEffect, IsVerdict};
 
 use crate::changing::{Deleting, Updating};
 use crate::inserting::inserted;
@@ -23,7 +24,7 @@ use crate::totals::{Summing, aggregates};
 use crate::{Effect, Verdict};
 use page_base::{Columns, NoMemory, Row, RowList};
 use plain_model::{
-    Carried, DeleteStmt, InsertStmt, Items, Message, Reply, SelectStmt, SumList, UpdateStmt,
+    Carried, DeleteStmt, InsertStmt, Items, Message, Names, Reply, SelectStmt, SumList, UpdateStmt,
 };
 use std::alloc::Global;
 
@@ -80,6 +81,21 @@ fn cuts(alloc: Global, taken: Result<RowList, Stop>) -> Result<Effect, NoMemory>
     }
 }
 
+// What an INSERT does to the table, which it suits; `names` are the columns that get values.
+fn insert_effect(
+    alloc: Global,
+    stmt: &InsertStmt,
+    names: &Names,
+    cols: &Columns,
+    rows: &RowList,
+) -> Result<Effect, NoMemory>
+    requires { names.now ≡ target_names stmt.now.cols cols.now }
+    ensures { IfOk result (λ effect. (t : Table) → IsTable cols.now rows.now t → IsEffect (Insert stmt.now) t effect) }
+{
+    let taken = inserted(alloc, names, cols, rows, &stmt.rows);
+    puts(alloc, taken)
+}
+
 /// What an INSERT comes to over the table of these columns and rows.
 pub fn insert(
     alloc: Global,
@@ -90,11 +106,28 @@ pub fn insert(
     ensures { IfOk result (λ verdict. (t : Table) → IsTable cols.now rows.now t → IsVerdict (Insert stmt.now) t verdict) }
 {
     let names = target_names(alloc, &stmt.cols, cols)?;
-    if let Some(number) = insert_fault(alloc, stmt, &names, cols) {
-        return Ok(Verdict::Refused(plain(number)));
+    match insert_fault(alloc, stmt, &names, cols) {
+        Some(number) => Ok(Verdict::Refused(plain(number))),
+        None => Ok(Verdict::Does(insert_effect(alloc, stmt, &names, cols, rows)?)),
     }
-    let taken = inserted(alloc, &names, cols, rows, &stmt.rows);
-    Ok(Verdict::Does(puts(alloc, taken)?))
+}
+
+// What an UPDATE does to the table.
+fn update_effect(
+    alloc: Global,
+    stmt: &UpdateStmt,
+    cols: &Columns,
+    rows: &RowList,
+) -> Result<Effect, NoMemory>
+    ensures { IfOk result (λ effect. (t : Table) → IsTable cols.now rows.now t → IsEffect (Update stmt.now) t effect) }
+{
+    let work = Updating {
+        sets: &stmt.sets,
+        filter: &stmt.filter,
+        cols,
+    };
+    let taken = taken(alloc, &work, rows);
+    puts(alloc, taken)
 }
 
 /// What an UPDATE comes to over the table of these columns and rows.
@@ -106,16 +139,27 @@ pub fn update(
 ) -> Result<Verdict, NoMemory>
     ensures { IfOk result (λ verdict. (t : Table) → IsTable cols.now rows.now t → IsVerdict (Update stmt.now) t verdict) }
 {
-    if let Some(number) = update_fault(stmt, cols) {
-        return Ok(Verdict::Refused(plain(number)));
+    match update_fault(stmt, cols) {
+        Some(number) => Ok(Verdict::Refused(plain(number))),
+        None => Ok(Verdict::Does(update_effect(alloc, stmt, cols, rows)?)),
     }
-    let work = Updating {
-        sets: &stmt.sets,
+}
+
+// What a DELETE does to the table.
+fn delete_effect(
+    alloc: Global,
+    stmt: &DeleteStmt,
+    cols: &Columns,
+    rows: &RowList,
+) -> Result<Effect, NoMemory>
+    ensures { IfOk result (λ effect. (t : Table) → IsTable cols.now rows.now t → IsEffect (Delete stmt.now) t effect) }
+{
+    let work = Deleting {
         filter: &stmt.filter,
         cols,
     };
     let taken = taken(alloc, &work, rows);
-    Ok(Verdict::Does(puts(alloc, taken)?))
+    cuts(alloc, taken)
 }
 
 /// What a DELETE comes to over the table of these columns and rows.
@@ -127,15 +171,10 @@ pub fn delete(
 ) -> Result<Verdict, NoMemory>
     ensures { IfOk result (λ verdict. (t : Table) → IsTable cols.now rows.now t → IsVerdict (Delete stmt.now) t verdict) }
 {
-    if let Some(number) = delete_fault(stmt, cols) {
-        return Ok(Verdict::Refused(plain(number)));
+    match delete_fault(stmt, cols) {
+        Some(number) => Ok(Verdict::Refused(plain(number))),
+        None => Ok(Verdict::Does(delete_effect(alloc, stmt, cols, rows)?)),
     }
-    let work = Deleting {
-        filter: &stmt.filter,
-        cols,
-    };
-    let taken = taken(alloc, &work, rows);
-    Ok(Verdict::Does(cuts(alloc, taken)?))
 }
 
 // The rows that a SELECT shows, or the first refusal.
@@ -217,9 +256,11 @@ pub fn select(
 ) -> Result<Verdict, NoMemory>
     ensures { IfOk result (λ verdict. (t : Table) → IsTable cols.now rows.now t → IsVerdict (Select stmt.now) t verdict) }
 {
-    if let Some(number) = select_fault(stmt, cols) {
-        return Ok(Verdict::Refused(plain(number)));
+    match select_fault(stmt, cols) {
+        Some(number) => Ok(Verdict::Refused(plain(number))),
+        None => {
+            let reply = selected(alloc, stmt, cols, rows)?;
+            Ok(Verdict::Does(answer(alloc, reply)))
+        }
     }
-    let reply = selected(alloc, stmt, cols, rows)?;
-    Ok(Verdict::Does(answer(alloc, reply)))
 }

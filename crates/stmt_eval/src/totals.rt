@@ -1,6 +1,6 @@
 //! The aggregates of the rows that a SELECT keeps.
 
-ghost use Rattle.std.specs.Prelude.{◌≡◌, ℤ, pos, ◌+ℤ◌, ◌≤ℤ◌, List, length, map, IfOk, slice_index_or, false, is_some};
+ghost use Rattle.std.specs.Prelude.{◌≡◌, ℤ, pos, ◌+ℤ◌, ◌≤ℤ◌, List, length, map, IfOk, slice_index_or, false, is_some, unwrap_or};
 ghost use Rattle.std.specs.List.{list_any};
 ghost use Rattle.page_base.specs.declared.value.Value.TheVariants.{Null};
 ghost use Rattle.sql_eval.specs.Given.{Gives};
@@ -79,17 +79,34 @@ fn has_number(taken: &[Row], place: usize) -> bool
     taken.iter().any(|row| number_at(row, place).is_some())
 }
 
+// The number at a place of a row, or 0.
+fn number_or_zero(row: &Row, place: usize) -> i64
+    ensures { result ≡ unwrap_or (number_in (slice_index_or row.now place Null)) (pos 0) }
+{
+    match number_at(row, place) {
+        Some(number) => number,
+        None => 0,
+    }
+}
+
+// A sum with one more number, which has 64 bits.
+fn added(sum: i128, number: i64) -> i128
+    requires low { pos 0 ≤ℤ (sum +ℤ pos 170141183460469231722463931679029329920) }
+    requires high { sum ≤ℤ pos 170141183460469231722463931679029329920 }
+    ensures sum { result ≡ sum +ℤ number }
+    ensures low { sum ≤ℤ (result +ℤ pos 9223372036854775808) }
+    ensures high { result ≤ℤ (sum +ℤ pos 9223372036854775808) }
+{
+    sum + i128::from(number)
+}
+
 // The exact sum of the numbers at a place.
 fn total(taken: &[Row], place: usize) -> i128
     ensures { result ≡ total (numbers_at place taken.now) }
 {
     let mut sum: i128 = 0;
     for row in taken {
-        let number = match number_at(row, place) {
-            Some(number) => i128::from(number),
-            None => 0,
-        };
-        sum += number;
+        sum = added(sum, number_or_zero(row, place));
     }
     sum
 }
