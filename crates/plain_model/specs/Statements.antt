@@ -1,5 +1,5 @@
 -- What a table statement means over its table: its refusals by shape, its changes and its reply.
-use Rattle.std.specs.Prelude.{ℕ, List, [], ◌∷◌, map, length, Option, Some, None, option_map}
+use Rattle.std.specs.Prelude.{ℕ, Bool, true, false, List, [], ◌∷◌, map, length, Option, Some, None, option_map}
 use Rattle.std.specs.declared.result.Result.{Result}
 use Rattle.std.specs.declared.result.Result.TheVariants as result
 use Rattle.std.specs.FinMap as finite
@@ -63,6 +63,14 @@ data_over (Select s) t = ([], selected s.items s.filter s.order t)
 data_over (Update u) t = changes_of (Put u.table) (taken_from 1 (map (updated_row u.sets u.filter t.cols) (rows_of t)))
 data_over (Delete d) t = changes_of (Cut d.table) (taken_from 1 (map (deleted_row d.filter t.cols) (rows_of t)))
 data_over stmt t = ([], Ok)
+
+-- whether the statement reads or changes the rows of its table
+abbrev pub is_of_rows : Stmt → Bool
+is_of_rows (Insert i) = true
+is_of_rows (Select s) = true
+is_of_rows (Update u) = true
+is_of_rows (Delete d) = true
+is_of_rows stmt = false
 
 -- the table that the statement is about
 abbrev pub table_named : Stmt → List ℕ

@@ -48,9 +48,9 @@ module _ {A : Type 0} (cols : List Column) (start : List (List Value)) (new : A 
       let more = added_more cols rows row start in
       record {
         is = next_list i a rows old within at h
-          ∙ ap (λ (o : Outcome (List Value)). rest i rows o (drop (i + 1) lists)) taken.0
-          ∙ joined_more rows row (i + 1) (inserted_from cols (key_of cols row ∷ added cols rows start) (i + 1 + 1) (map new (drop (i + 1) lists)))
-          ∙ ap (λ (keys : List (List Value)). joined (rows ++ row ∷ []) (inserted_from cols keys (i + 1 + 1) (map new (drop (i + 1) lists)))) (sym more);
+            ∙ ap (λ (o : Outcome (List Value)). rest i rows o (drop (i + 1) lists)) taken.0
+            ∙ joined_more rows row (i + 1) (inserted_from cols (key_of cols row ∷ added cols rows start) (i + 1 + 1) (map new (drop (i + 1) lists)))
+            ∙ ap (λ (keys : List (List Value)). joined (rows ++ row ∷ []) (inserted_from cols keys (i + 1 + 1) (map new (drop (i + 1) lists)))) (sym more);
         keys = subst (λ (keys : List (List Value)). HasKeys set keys) (sym more) taken.1;
       }
 

@@ -16,7 +16,7 @@ either false c = refl
 pub keys_more : (old new : BTreeSet (List Value)) (key : List Value) (others : List (List Value)) → Updates key_cmp old new key true → HasKeys old others → HasKeys new (key ∷ others)
 keys_more old new key others u h = record {
   at = λ q. u.0 q
-    ∙ ap (λ (c : Bool). cond (is_eq (key_cmp key q)) true c) (h.at q)
-    ∙ either (is_eq (key_cmp key q)) (is_among others q)
-    ∙ ap (λ (b : Bool). b || is_among others q) ((eq_by_cmp_equiv key_cmp_total).symm key q);
+      ∙ ap (λ (c : Bool). cond (is_eq (key_cmp key q)) true c) (h.at q)
+      ∙ either (is_eq (key_cmp key q)) (is_among others q)
+      ∙ ap (λ (b : Bool). b || is_among others q) ((eq_by_cmp_equiv key_cmp_total).symm key q);
 }

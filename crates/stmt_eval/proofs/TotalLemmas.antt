@@ -39,7 +39,7 @@ pub summed_more : (place : ℕ) (taken : List (List Value)) (i : ℕ) (row : Lis
     next ≡ sum +ℤ unwrap_or (number_in (get_or row place Null)) (pos 0) → sum ≤ℤ (next +ℤ pos 9223372036854775808) → next ≤ℤ (sum +ℤ pos 9223372036854775808) → IsSummed place taken i sum → IsSummed place taken (i + 1) next
 summed_more place taken i row sum next within at e low high h =
     let front : total (numbers_at place (drop i taken)) ≡ unwrap_or (number_in (get_or row place Null)) (pos 0) +ℤ total (numbers_at place (drop (i + 1) taken)) =
-      ap (λ (rest : List (List Value)). total (numbers_at place rest)) (drop_more taken i row within ∙ ap (λ (r : List Value). r ∷ drop (i + 1) taken) (sym at)) ∙ number_first place row (drop (i + 1) taken) in
+    ap (λ (rest : List (List Value)). total (numbers_at place rest)) (drop_more taken i row within ∙ ap (λ (r : List Value). r ∷ drop (i + 1) taken) (sym at)) ∙ number_first place row (drop (i + 1) taken) in
     record {
       is = regrouped (total (numbers_at place taken)) sum _ (total (numbers_at place (drop (i + 1) taken))) next (h.is ∙ ap (λ (n : ℤ). sum +ℤ n) front) e;
       low = let l = h.low in omega (arith, ints);

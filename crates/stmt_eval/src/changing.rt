@@ -36,12 +36,7 @@ fn set_to(
 }
 
 // A row after the SETs.
-fn set_row(
-    alloc: Global,
-    sets: &SetList,
-    cols: &Columns,
-    row: &Row,
-) -> Result<Row, EvalRefusal>
+fn set_row(alloc: Global, sets: &SetList, cols: &Columns, row: &Row) -> Result<Row, EvalRefusal>
     ensures { Gives result (set_row sets.now cols.now row.now) }
 {
     let mut new = Row::new(alloc);

@@ -107,11 +107,7 @@ fn fault_among(cols: &[Column], keys: &BTreeSet<Row>, row: &Row, key: &Row) -> O
 {
     match new_row_fault(cols, row, key) {
         Some(number) => Some(number),
-        None => if keys.contains(key) {
-            Some(2627)
-        } else {
-            None
-        },
+        None => if keys.contains(key) { Some(2627) } else { None },
     }
 }
 

@@ -8,10 +8,14 @@ mod keys;
 mod refusal;
 mod rows;
 mod selecting;
+mod shape;
 mod shapes;
 mod statements;
 mod storing;
+#[cfg(test)]
+mod tests;
 mod totals;
 
 pub use effect::{Effect, Verdict};
-pub use statements::{delete, insert, select, update};
+pub use shape::shape_of;
+pub use statements::{effect_of, verdict_of};

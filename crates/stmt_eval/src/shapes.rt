@@ -260,10 +260,12 @@ pub(crate) fn select_fault(stmt: &SelectStmt, cols: &Columns) -> Option<u32>
 fn are_lists_right(alloc: Global, stmt: &InsertStmt, names: &Names, cols: &Columns) -> bool
     ensures { result ≡ list_all (may_all_stand cols.now names.now) stmt.now.rows }
 {
-    stmt.rows
-        .as_slice()
-        .iter()
-        .all(|exprs| may_all_stand(alloc, cols, names.as_slice(), exprs.as_slice()))
+    stmt.rows.as_slice().iter().all(|exprs| may_all_stand(
+        alloc,
+        cols,
+        names.as_slice(),
+        exprs.as_slice(),
+    ))
 }
 
 // Whether an INSERT names what is no column.

@@ -1,15 +1,13 @@
-//! What a statement comes to over its table: refused by its shape, or an effect.
+//! What a statement does to its table.
 
-ghost use Rattle.std.specs.Prelude.{◌≡◌, ℕ, List, map, IfOk, [], Result};
+ghost use Rattle.std.specs.Prelude.{◌≡◌, ℕ, List, map, IfOk, [], Result, true};
 ghost use Rattle.page_base.specs.declared.value.Value.{Value};
 ghost use Rattle.plain_model.specs.declared.reply.Message.{Message};
 ghost use Rattle.plain_model.specs.declared.stmt.Stmt.TheVariants.{Insert, Select, Update, Delete};
-ghost use Rattle.plain_model.specs.Inserting.{target_names};
-ghost use Rattle.plain_model.specs.Messages.{plain};
 ghost use Rattle.plain_model.specs.Outcomes.{taken_from};
 ghost use Rattle.plain_model.specs.Selecting.{selected_row, rows_reply};
 ghost use Rattle.plain_model.specs.Totals.{summed_row, totals_row, totals_reply};
-ghost use Rattle.plain_model.specs.Statements.{changes_of, selected};
+ghost use Rattle.plain_model.specs.Statements.{changes_of, selected, is_of_rows};
 ghost use Rattle.plain_model.specs.Tables.{Table, IsTable, Put, Cut};
 ghost use Rattle.stmt_eval.specs.Given.{Takes};
 ghost use Rattle.stmt_eval.specs.Verdicts.{changes_in, IsEffect, IsVerdict};
@@ -19,24 +17,13 @@ use crate::inserting::inserted;
 use crate::refusal::Stop;
 use crate::rows::{at_place, taken};
 use crate::selecting::{Selecting, shown_in_order, shown_row};
-use crate::shapes::{delete_fault, insert_fault, select_fault, target_names, update_fault};
+use crate::shape::shape_of;
+use crate::shapes::target_names;
 use crate::totals::{Summing, aggregates};
 use crate::{Effect, Verdict};
 use page_base::{Columns, NoMemory, Row, RowList};
-use plain_model::{
-    Carried, DeleteStmt, InsertStmt, Items, Message, Names, Reply, SelectStmt, SumList, UpdateStmt,
-};
+use plain_model::{DeleteStmt, InsertStmt, Items, Reply, SelectStmt, Stmt, SumList, UpdateStmt};
 use std::alloc::Global;
-
-// A refusal by its number.
-fn plain(number: u32) -> Message
-    ensures { result ≡ plain number }
-{
-    Message {
-        number,
-        carried: Carried::Nothing,
-    }
-}
 
 // Nothing changes, and this is the reply.
 fn answer(alloc: Global, reply: Reply) -> Effect
@@ -81,35 +68,18 @@ fn cuts(alloc: Global, taken: Result<RowList, Stop>) -> Result<Effect, NoMemory>
     }
 }
 
-// What an INSERT does to the table, which it suits; `names` are the columns that get values.
+// What an INSERT does to the table.
 fn insert_effect(
     alloc: Global,
     stmt: &InsertStmt,
-    names: &Names,
     cols: &Columns,
     rows: &RowList,
 ) -> Result<Effect, NoMemory>
-    requires { names.now ≡ target_names stmt.now.cols cols.now }
     ensures { IfOk result (λ effect. (t : Table) → IsTable cols.now rows.now t → IsEffect (Insert stmt.now) t effect) }
 {
-    let taken = inserted(alloc, names, cols, rows, &stmt.rows);
-    puts(alloc, taken)
-}
-
-/// What an INSERT comes to over the table of these columns and rows.
-pub fn insert(
-    alloc: Global,
-    stmt: &InsertStmt,
-    cols: &Columns,
-    rows: &RowList,
-) -> Result<Verdict, NoMemory>
-    ensures { IfOk result (λ verdict. (t : Table) → IsTable cols.now rows.now t → IsVerdict (Insert stmt.now) t verdict) }
-{
     let names = target_names(alloc, &stmt.cols, cols)?;
-    match insert_fault(alloc, stmt, &names, cols) {
-        Some(number) => Ok(Verdict::Refused(plain(number))),
-        None => Ok(Verdict::Does(insert_effect(alloc, stmt, &names, cols, rows)?)),
-    }
+    let taken = inserted(alloc, &names, cols, rows, &stmt.rows);
+    puts(alloc, taken)
 }
 
 // What an UPDATE does to the table.
@@ -130,21 +100,6 @@ fn update_effect(
     puts(alloc, taken)
 }
 
-/// What an UPDATE comes to over the table of these columns and rows.
-pub fn update(
-    alloc: Global,
-    stmt: &UpdateStmt,
-    cols: &Columns,
-    rows: &RowList,
-) -> Result<Verdict, NoMemory>
-    ensures { IfOk result (λ verdict. (t : Table) → IsTable cols.now rows.now t → IsVerdict (Update stmt.now) t verdict) }
-{
-    match update_fault(stmt, cols) {
-        Some(number) => Ok(Verdict::Refused(plain(number))),
-        None => Ok(Verdict::Does(update_effect(alloc, stmt, cols, rows)?)),
-    }
-}
-
 // What a DELETE does to the table.
 fn delete_effect(
     alloc: Global,
@@ -160,21 +115,6 @@ fn delete_effect(
     };
     let taken = taken(alloc, &work, rows);
     cuts(alloc, taken)
-}
-
-/// What a DELETE comes to over the table of these columns and rows.
-pub fn delete(
-    alloc: Global,
-    stmt: &DeleteStmt,
-    cols: &Columns,
-    rows: &RowList,
-) -> Result<Verdict, NoMemory>
-    ensures { IfOk result (λ verdict. (t : Table) → IsTable cols.now rows.now t → IsVerdict (Delete stmt.now) t verdict) }
-{
-    match delete_fault(stmt, cols) {
-        Some(number) => Ok(Verdict::Refused(plain(number))),
-        None => Ok(Verdict::Does(delete_effect(alloc, stmt, cols, rows)?)),
-    }
 }
 
 // The rows that a SELECT shows, or the first refusal.
@@ -247,20 +187,52 @@ fn selected(
     }
 }
 
-/// What a SELECT comes to over the table of these columns and rows.
-pub fn select(
+// What a SELECT answers; it changes nothing.
+fn select_effect(
     alloc: Global,
     stmt: &SelectStmt,
     cols: &Columns,
     rows: &RowList,
-) -> Result<Verdict, NoMemory>
-    ensures { IfOk result (λ verdict. (t : Table) → IsTable cols.now rows.now t → IsVerdict (Select stmt.now) t verdict) }
+) -> Result<Effect, NoMemory>
+    ensures { IfOk result (λ effect. (t : Table) → IsTable cols.now rows.now t → IsEffect (Select stmt.now) t effect) }
 {
-    match select_fault(stmt, cols) {
-        Some(number) => Ok(Verdict::Refused(plain(number))),
-        None => {
-            let reply = selected(alloc, stmt, cols, rows)?;
-            Ok(Verdict::Does(answer(alloc, reply)))
-        }
+    let reply = selected(alloc, stmt, cols, rows)?;
+    Ok(answer(alloc, reply))
+}
+
+/// What a statement about rows does to the table of these columns and rows, which it suits, and its reply. A row that is
+/// refused is the reply, and then nothing changes.
+pub fn effect_of(
+    alloc: Global,
+    stmt: &Stmt,
+    cols: &Columns,
+    rows: &RowList,
+) -> Result<Effect, NoMemory>
+    requires { is_of_rows stmt.now ≡ true }
+    ensures { IfOk result (λ effect. (t : Table) → IsTable cols.now rows.now t → IsEffect stmt.now t effect) }
+{
+    match stmt {
+        Stmt::Insert(insert) => insert_effect(alloc, insert, cols, rows),
+        Stmt::Select(select) => select_effect(alloc, select, cols, rows),
+        Stmt::Update(update) => update_effect(alloc, update, cols, rows),
+        Stmt::Delete(delete) => delete_effect(alloc, delete, cols, rows),
+        _ => Ok(answer(alloc, Reply::Ok)),
+    }
+}
+
+/// What comes of a statement about rows over the table of these columns and rows: the first refusal that its shape
+/// gives, or its effect. Each row is worked on once.
+pub fn verdict_of(
+    alloc: Global,
+    stmt: &Stmt,
+    cols: &Columns,
+    rows: &RowList,
+) -> Result<Verdict, NoMemory>
+    requires { is_of_rows stmt.now ≡ true }
+    ensures { IfOk result (λ verdict. (t : Table) → IsTable cols.now rows.now t → IsVerdict stmt.now t verdict) }
+{
+    match shape_of(alloc, stmt, cols)? {
+        Some(message) => Ok(Verdict::Refused(message)),
+        None => Ok(Verdict::Does(effect_of(alloc, stmt, cols, rows)?)),
     }
 }

@@ -26,12 +26,7 @@ fn argument(alloc: Global, cols: &Columns, row: &Row, sum: &Sum) -> Result<Value
 }
 
 // The arguments of all aggregates over a row.
-fn arguments(
-    alloc: Global,
-    cols: &Columns,
-    row: &Row,
-    sums: &SumList,
-) -> Result<Row, EvalRefusal>
+fn arguments(alloc: Global, cols: &Columns, row: &Row, sums: &SumList) -> Result<Row, EvalRefusal>
     ensures { Gives result (all_of (map (argument cols.now row.now) sums.now)) }
 {
     let mut values = Row::new(alloc);

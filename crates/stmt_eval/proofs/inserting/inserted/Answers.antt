@@ -15,4 +15,4 @@ loop-i-preserved c =
     let start = map (key_of c.args.cols.now) c.args.rows.now in
     subst (λ (news : List (List Value)). IsInserted cols start (new_row c.args.names.now cols) c.args.lists.now (c.loop-i.i + 1) news c.next_row.new.keys) (sym c.in_ok-push-in-Ok.ensures.ok)
     (inserted_more cols start (new_row c.args.names.now cols) c.args.lists.now c.loop-i.i c.exprs-item.result c.loop-i.news c.in-Ok.row c.loop-i.keys c.next_row.new.keys
-      within (c.exprs-item.is ∙ ap (λ (lists : List (List Expr)). get_or lists c.loop-i.i c.exprs-item.result) e) c.loop-i.invariant (c.in-Ok.ensures (added cols c.loop-i.news start) c.loop-i.invariant.keys))
+    within (c.exprs-item.is ∙ ap (λ (lists : List (List Expr)). get_or lists c.loop-i.i c.exprs-item.result) e) c.loop-i.invariant (c.in-Ok.ensures (added cols c.loop-i.news start) c.loop-i.invariant.keys))

@@ -14,6 +14,6 @@ returns c =
     let less : List Value × List Value → List Value × List Value → Bool = λ a b. is_before c.args.cols.now c.args.order.now a.0 b.0 in
     let ranks : IsStrictWeakOrder less = ranks_by (row_cmp_total c.args.cols.now c.args.order.now) (λ (t : List Value × List Value). t.0) in
     sorted_once less ranks c.into_vec-sorted.result.items c.sort_by.new.self.items
-      (c.in_ok-sort_by.ensures.sorted less ranks (always_returns_same _ _ _ (λ a r f k. search rules)))
-      (c.in_ok-sort_by.ensures.stable less ranks (always_returns_same _ _ _ (λ a r f k. search rules)))
+    (c.in_ok-sort_by.ensures.sorted less ranks (always_returns_same _ _ _ (λ a r f k. search rules)))
+    (c.in_ok-sort_by.ensures.stable less ranks (always_returns_same _ _ _ (λ a r f k. search rules)))
     ∙ ap (sorted_by less) c.into_vec-sorted.ensures

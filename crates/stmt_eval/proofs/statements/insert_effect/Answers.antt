@@ -15,5 +15,5 @@ pub returns : goal.returns
 returns c =
     let stmt = c.args.stmt.now in
     IfOk-weaker c.puts.result _ _ (λ effect h t is.
-      of_keys (λ (cols : List Column) (keys : List (List Value)). changes_of (Put stmt.table) (inserted_from cols keys 1 (map (new_row (target_names stmt.cols cols) cols) stmt.rows)) ≡ (changes_in stmt.table effect, effect.reply)) c.args.cols.now c.args.rows.now t is
-        (h stmt.table _ (subst (λ (names : List (List ℕ)). Takes c.inserted-taken.result (inserted_from c.args.cols.now (map (key_of c.args.cols.now) c.args.rows.now) 1 (map (new_row names c.args.cols.now) stmt.rows))) c.requires c.inserted-taken.ensures))) c.puts.ensures
+    of_keys (λ (cols : List Column) (keys : List (List Value)). changes_of (Put stmt.table) (inserted_from cols keys 1 (map (new_row (target_names stmt.cols cols) cols) stmt.rows)) ≡ (changes_in stmt.table effect, effect.reply)) c.args.cols.now c.args.rows.now t is
+    (h stmt.table _ (subst (λ (names : List (List ℕ)). Takes c.inserted-taken.result (inserted_from c.args.cols.now (map (key_of c.args.cols.now) c.args.rows.now) 1 (map (new_row names c.args.cols.now) stmt.rows))) c.in_ok-names.ensures c.inserted-taken.ensures))) c.puts.ensures

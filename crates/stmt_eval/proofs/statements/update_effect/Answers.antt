@@ -14,5 +14,5 @@ use Rattle.stmt_eval.proofs.statements.update_effect.Goals as goal
 pub returns : goal.returns
 returns c =
     IfOk-weaker c.puts.result _ _ (λ effect h t is.
-      of_table (λ (cols : List Column) (rows : List (List Value)). changes_of (Put c.args.stmt.now.table) (taken_from 1 (map (updated_row c.args.stmt.now.sets c.args.stmt.now.filter cols) rows)) ≡ (changes_in c.args.stmt.now.table effect, effect.reply)) c.args.cols.now c.args.rows.now t is
-        (h c.args.stmt.now.table _ c.taken-taken.ensures)) c.puts.ensures
+    of_table (λ (cols : List Column) (rows : List (List Value)). changes_of (Put c.args.stmt.now.table) (taken_from 1 (map (updated_row c.args.stmt.now.sets c.args.stmt.now.filter cols) rows)) ≡ (changes_in c.args.stmt.now.table effect, effect.reply)) c.args.cols.now c.args.rows.now t is
+    (h c.args.stmt.now.table _ c.taken-taken.ensures)) c.puts.ensures

@@ -10,4 +10,4 @@ loop-row-preserved c =
     let number = to_z-of_z w64 c.number_or_zero.result (search rules) ∙ c.number_or_zero.ensures in
     subst (λ (sum : ℤ). IsSummed c.args.place c.args.taken.now (c.loop-row.row-index + 1) sum) (sym (to_z-of_z w128 c.added-sum.result (search rules)))
     (summed_more c.args.place c.args.taken.now c.loop-row.row-index c.row-item.result (to_z w128 c.loop-row.sum-bits) c.added-sum.result c.loop-row-test.true c.row-item.is
-      (c.added-sum.ensures.sum ∙ ap (λ (n : ℤ). to_z w128 c.loop-row.sum-bits +ℤ n) number) c.added-sum.ensures.low c.added-sum.ensures.high c.loop-row.invariant)
+    (c.added-sum.ensures.sum ∙ ap (λ (n : ℤ). to_z w128 c.loop-row.sum-bits +ℤ n) number) c.added-sum.ensures.low c.added-sum.ensures.high c.loop-row.invariant)
