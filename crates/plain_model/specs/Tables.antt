@@ -39,6 +39,10 @@ key_size cols = length (filter (λ c. nat_le 1 c.key) cols)
 abbrev pub key_of : List Column → List Value → List Value
 key_of cols row = map (key_cell cols row) (range_with_len 1 (key_size cols))
 
+-- each row of the table stands by its own key
+pub record IsKeyed (t : Table) : Type 0 where
+  pub at : (key row : List Value) → finite.get t.rows key ≡ Some row → key ≡ key_of t.cols row
+
 -- these columns and these rows, in ascending order of keys and each by its own key, are the table
 pub record IsTable (cols : List Column) (rows : List (List Value)) (t : Table) : Type 0 where
   pub columns : t.cols ≡ cols

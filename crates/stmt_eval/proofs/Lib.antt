@@ -5,3 +5,4 @@ pub mod TotalLemmas
 pub mod KeysLemmas
 pub mod InsertingLemmas
 pub mod TableLemmas
+pub mod CallerLemmas

@@ -248,21 +248,34 @@ fn effect_in(found: Verdict) -> Option<Effect> {
 }
 
 #[test]
-fn rows_of_updates_and_deletes(rt: HostRuntime) -> Result<(), Fail> {
+fn an_update_puts_the_rows_as_they_become(rt: HostRuntime) -> Result<(), Fail> {
     let alloc = rt.alloc();
     let cols = columns(alloc)?;
     let rows = table(alloc, &[(1, Some(9)), (2, Some(10)), (3, None)])?;
-    let stmt = update_of(alloc, b"v", 3)?;
-    let done = effect_in(verdict_of(alloc, &Stmt::Update(stmt), &cols, &rows)?).ok_or("refused")?;
+    let stmt = Stmt::Update(update_of(alloc, b"v", 3)?);
+    let done = effect_in(verdict_of(alloc, &stmt, &cols, &rows)?).ok_or("refused")?;
     assert!(rt; done.puts == table(alloc, &[(2, Some(30))])?);
-    let stmt = DeleteStmt {
+    Ok(())
+}
+
+// DELETE FROM t WHERE v < n
+fn delete_of(alloc: Global, n: i64) -> Result<Stmt, Fail> {
+    Ok(Stmt::Delete(DeleteStmt {
         table: Name::read(b"t")?,
-        filter: Some(compared(alloc, CompareOp::Lt, 10)?),
-    };
-    let done = effect_in(verdict_of(alloc, &Stmt::Delete(stmt), &cols, &rows)?).ok_or("refused")?;
+        filter: Some(compared(alloc, CompareOp::Lt, n)?),
+    }))
+}
+
+#[test]
+fn a_delete_cuts_the_keys(rt: HostRuntime) -> Result<(), Fail> {
+    let alloc = rt.alloc();
+    let cols = columns(alloc)?;
+    let rows = table(alloc, &[(1, Some(9)), (2, Some(10)), (3, None)])?;
+    let stmt = delete_of(alloc, 10)?;
+    let done = effect_in(verdict_of(alloc, &stmt, &cols, &rows)?).ok_or("refused")?;
+    assert!(rt; answer_in(&done.reply) == Told::Count(1));
     assert!(rt; done.cuts.len() == 1);
     assert!(rt; done.cuts.at(0).as_slice() == [Value::Int(1)].as_slice());
-    assert!(rt; answer_in(&done.reply) == Told::Count(1));
     Ok(())
 }
 
