@@ -1,36 +1,26 @@
 -- What an UPDATE or a DELETE does to each row of a table.
-use Rattle.std.specs.Prelude.{ℕ, if◌then◌else◌, List, [], ◌∷◌, Option, Some, None, option_and_then}
+use Rattle.std.specs.Prelude.{ℕ, if◌then◌else◌, List, [], ◌∷◌, map, Option, Some, None, option_and_then}
 use Rattle.std.specs.Str.{bytes_eq}
 use Rattle.page_base.specs.declared.column.Column.{Column}
 use Rattle.page_base.specs.declared.value.Value.{Value}
 use Rattle.plain_model.specs.declared.expr.Expr.{Expr}
 use Rattle.plain_model.specs.declared.stmt.SetItem.{SetItem}
-use Rattle.plain_model.specs.Outcomes.{Outcome, Refused, Taken, all_of, keeps, behind}
+use Rattle.plain_model.specs.Cells.{cell}
+use Rattle.plain_model.specs.Outcomes.{Outcome, Refused, Taken, all_of, keeps, behind, unless_fault}
 use Rattle.plain_model.specs.Storing.{kept_as, row_fault}
 use Rattle.plain_model.specs.Tables.{key_of}
 use Rattle.plain_model.specs.Tree.{tree_of}
 use Rattle.plain_model.specs.Values.{value_of}
 
--- what a column holds after the SETs, which see the old row: the value as it keeps it, or the old one where it isn't
--- set; none is an overflow
-abbrev pub set_to : List SetItem → List Column → List Value → Column → Value → Option Value
-set_to [] cols row c old = Some old
-set_to (i ∷ sets) cols row c old = if bytes_eq c.name i.col then option_and_then (kept_as c.kind) (value_of cols row (tree_of i.to)) else set_to sets cols row c old
-
--- what these columns with these old values hold after the SETs
-abbrev pub set_cells : List SetItem → List Column → List Value → List Column → List Value → List (Option Value)
-set_cells sets cols row [] olds = []
-set_cells sets cols row (c ∷ cs) [] = []
-set_cells sets cols row (c ∷ cs) (old ∷ olds) = set_to sets cols row c old ∷ set_cells sets cols row cs olds
+-- what a column holds after the SETs, which see the old row: the value as the column keeps it, or the old one where it
+-- isn't set; none is an overflow
+abbrev pub set_to : List SetItem → List Column → List Value → Column → Option Value
+set_to [] cols row c = Some (cell cols row c.name)
+set_to (i ∷ sets) cols row c = if bytes_eq c.name i.col then option_and_then (kept_as c.kind) (value_of cols row (tree_of i.to)) else set_to sets cols row c
 
 -- a row after the SETs; none is an overflow
 abbrev pub set_row : List SetItem → List Column → List Value → Option (List Value)
-set_row sets cols row = all_of (set_cells sets cols row cols row)
-
--- a row is taken unless something refuses it
-abbrev pub unless_fault : List Value → Option ℕ → Outcome (List Value)
-unless_fault row (Some number) = Refused number
-unless_fault row None = Taken row
+set_row sets cols row = all_of (map (set_to sets cols row) cols)
 
 -- a row that is right by itself is taken
 abbrev pub if_right : List Column → Option (List Value) → Outcome (List Value)

@@ -1,17 +1,20 @@
 -- What an INSERT does to a table.
-use Rattle.std.specs.Prelude.{ℕ, ◌+◌, if◌then◌else◌, ◌==◌, List, [], ◌∷◌, map, length, Option, Some, None, option_and_then}
+use Rattle.std.specs.Prelude.{ℕ, ◌+◌, Bool, if◌then◌else◌, List, [], ◌∷◌, map, Option, Some, None, option_and_then}
 use Rattle.std.specs.Str.{bytes_eq}
 use Rattle.std.specs.declared.result.Result.{Result}
 use Rattle.std.specs.declared.result.Result.TheVariants as result
-use Rattle.std.specs.FinMap as finite
+use Rattle.std.specs.List.{list_any}
+use Rattle.std.specs.Option.{option_or}
+use Rattle.std.specs.Ordering.{eq_by_cmp}
 use Rattle.page_base.specs.declared.column.Column.{Column}
 use Rattle.page_base.specs.declared.value.Value.{Value}
 use Rattle.page_base.specs.declared.value.Value.TheVariants.{Null}
+use Rattle.page_base.specs.Order.{key_cmp}
 use Rattle.plain_model.specs.declared.expr.Expr.{Expr}
 use Rattle.plain_model.specs.declared.reply.Message.{Message}
-use Rattle.plain_model.specs.Outcomes.{Outcome, Refused, Passed, Taken, after_row, all_of}
+use Rattle.plain_model.specs.Outcomes.{Outcome, Refused, Taken, after_row, all_of, unless_fault}
 use Rattle.plain_model.specs.Storing.{kept_as, new_row_fault}
-use Rattle.plain_model.specs.Tables.{Rows, key_of}
+use Rattle.plain_model.specs.Tables.{key_of}
 use Rattle.plain_model.specs.Tree.{tree_of}
 use Rattle.plain_model.specs.Values.{value_of}
 
@@ -30,24 +33,32 @@ given_for (n ∷ names) (e ∷ exprs) name = if bytes_eq n name then value_of []
 abbrev pub new_row : List (List ℕ) → List Column → List Expr → Option (List Value)
 new_row names cols exprs = all_of (map (λ c. option_and_then (kept_as c.kind) (given_for names exprs c.name)) cols)
 
--- a row that is right by itself is taken unless its key is there
-abbrev pub unless_there : List Column → Rows → List Value → Option ℕ → Outcome (List Value)
-unless_there cols rows row (Some number) = Refused number
-unless_there cols rows row None = if finite.contains_key rows (key_of cols row) then Refused 2627 else Taken row
+-- a key is one of these
+abbrev pub is_among : List (List Value) → List Value → Bool
+is_among keys key = list_any (eq_by_cmp key_cmp key) keys
 
--- what becomes of a new row
-abbrev pub inserted_row : List Column → Rows → Option (List Value) → Outcome (List Value)
-inserted_row cols rows None = Refused 8115
-inserted_row cols rows (Some row) = unless_there cols rows row (new_row_fault cols row)
+-- what refuses a key that is there
+abbrev pub key_clash : List (List Value) → List Value → Option ℕ
+key_clash keys key = if is_among keys key then Some 2627 else None
 
--- the rows with one that was taken
-abbrev pub with_taken : List Column → Rows → Outcome (List Value) → Rows
-with_taken cols rows (Taken row) = finite.insert rows (key_of cols row) row
-with_taken cols rows _ = rows
+-- what refuses a new row, where these keys are there: first the row by itself, then its key
+abbrev pub fault_among : List Column → List (List Value) → List Value → Option ℕ
+fault_among cols keys row = option_or (new_row_fault cols row) (key_clash keys (key_of cols row))
 
--- the new rows from this place on, each against the table and the rows before it, or the refusal of the first that fails
-abbrev pub inserted_from : List Column → Rows → ℕ → List (Option (List Value)) → Result (List (List Value)) Message
-inserted_from cols rows place [] = result.Ok []
-inserted_from cols rows place (new ∷ news) =
-    let outcome = inserted_row cols rows new in
-    after_row place outcome (inserted_from cols (with_taken cols rows outcome) (place + 1) news)
+-- what becomes of a new row, where these keys are there
+abbrev pub inserted_row : List Column → List (List Value) → Option (List Value) → Outcome (List Value)
+inserted_row cols keys None = Refused 8115
+inserted_row cols keys (Some row) = unless_fault row (fault_among cols keys row)
+
+-- the keys with that of a row that was taken
+abbrev pub with_taken : List Column → List (List Value) → Outcome (List Value) → List (List Value)
+with_taken cols keys (Taken row) = key_of cols row ∷ keys
+with_taken cols keys _ = keys
+
+-- the new rows from this place on, each against the keys of the table and of the rows before it, or the refusal of the
+-- first that fails
+abbrev pub inserted_from : List Column → List (List Value) → ℕ → List (Option (List Value)) → Result (List (List Value)) Message
+inserted_from cols keys place [] = result.Ok []
+inserted_from cols keys place (new ∷ news) =
+    let outcome = inserted_row cols keys new in
+    after_row place outcome (inserted_from cols (with_taken cols keys outcome) (place + 1) news)

@@ -57,3 +57,8 @@ abbrev pub behind : {X : Type 0} → Option Bool → Outcome X → Outcome X
 behind None outcome = Refused 8115
 behind (Some true) outcome = outcome
 behind (Some false) outcome = Passed
+
+-- a row is taken unless something refuses it, by its number
+abbrev pub unless_fault : List Value → Option ℕ → Outcome (List Value)
+unless_fault row (Some number) = Refused number
+unless_fault row None = Taken row

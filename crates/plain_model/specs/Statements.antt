@@ -1,7 +1,8 @@
 -- What a table statement means over its table: its refusals by shape, its changes and its reply.
-use Rattle.std.specs.Prelude.{ℕ, List, [], ◌∷◌, map, length, Option, Some, None, option_map}
+use Rattle.std.specs.Prelude.{ℕ, Bool, true, false, List, [], ◌∷◌, map, length, Option, Some, None, option_map}
 use Rattle.std.specs.declared.result.Result.{Result}
 use Rattle.std.specs.declared.result.Result.TheVariants as result
+use Rattle.std.specs.FinMap as finite
 use Rattle.page_base.specs.declared.column.Column.{Column}
 use Rattle.page_base.specs.declared.value.Value.{Value}
 use Rattle.plain_model.specs.declared.expr.Expr.{Expr}
@@ -17,7 +18,7 @@ use Rattle.plain_model.specs.Changing.{updated_row, deleted_row}
 use Rattle.plain_model.specs.Inserting.{target_names, new_row, inserted_from}
 use Rattle.plain_model.specs.Messages.{plain}
 use Rattle.plain_model.specs.Outcomes.{taken_from}
-use Rattle.plain_model.specs.Selecting.{select_rows, values_of}
+use Rattle.plain_model.specs.Selecting.{select_rows}
 use Rattle.plain_model.specs.Shapes.{select_fault, insert_fault, update_fault, delete_fault}
 use Rattle.plain_model.specs.Tables.{Table, Change, Put, Cut, Add, Remove, rows_of}
 use Rattle.plain_model.specs.Totals.{select_totals}
@@ -47,21 +48,29 @@ abbrev pub changes_of : (List Value → Change) → Result (List (List Value)) M
 changes_of change (result.Ok taken) = (map change taken, Count (length taken))
 changes_of change (result.Err m) = ([], Msg m)
 
--- the answer of a SELECT, by its items
+-- the answer of a SELECT: rows, or one row of aggregates
 abbrev pub selected : Items → Option Expr → List OrderItem → Table → Reply
-selected Star filter order t = select_rows Some filter order t
-selected (Exprs es) filter order t = select_rows (values_of t.cols es) filter order t
+selected Star filter order t = select_rows Star filter order t
+selected (Exprs es) filter order t = select_rows (Exprs es) filter order t
 selected (Sums ss) filter order t = select_totals ss filter t
 
 -- what the statement changes over its table, and its reply
 abbrev pub data_over : Stmt → Table → List Change × Reply
 data_over (CreateTable name cols) t = (Add name cols ∷ [], Ok)
 data_over (DropTable name) t = (Remove name ∷ [], Ok)
-data_over (Insert i) t = changes_of (Put i.table) (inserted_from t.cols t.rows 1 (map (new_row (target_names i.cols t.cols) t.cols) i.rows))
+data_over (Insert i) t = changes_of (Put i.table) (inserted_from t.cols (finite.keys t.rows) 1 (map (new_row (target_names i.cols t.cols) t.cols) i.rows))
 data_over (Select s) t = ([], selected s.items s.filter s.order t)
 data_over (Update u) t = changes_of (Put u.table) (taken_from 1 (map (updated_row u.sets u.filter t.cols) (rows_of t)))
 data_over (Delete d) t = changes_of (Cut d.table) (taken_from 1 (map (deleted_row d.filter t.cols) (rows_of t)))
 data_over stmt t = ([], Ok)
+
+-- whether the statement reads or changes the rows of its table
+abbrev pub is_of_rows : Stmt → Bool
+is_of_rows (Insert i) = true
+is_of_rows (Select s) = true
+is_of_rows (Update u) = true
+is_of_rows (Delete d) = true
+is_of_rows stmt = false
 
 -- the table that the statement is about
 abbrev pub table_named : Stmt → List ℕ

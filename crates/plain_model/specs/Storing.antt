@@ -8,7 +8,7 @@ use Rattle.page_base.specs.declared.value.Value.{Value}
 use Rattle.page_base.specs.declared.value.Value.TheVariants.{Null, Int, Big, Text}
 use Rattle.plain_model.specs.Messages.{first_that}
 use Rattle.plain_model.specs.Numbers.{stored}
-use Rattle.plain_model.specs.Sizes.{size_of_row, size_of_key}
+use Rattle.plain_model.specs.Sizes.{size_of_row, size_of_values}
 use Rattle.plain_model.specs.Tables.{key_of}
 
 -- a value as a column of this type keeps it; none is a number that INT doesn't hold
@@ -45,9 +45,9 @@ some_cell test (column ∷ columns) (value ∷ row) = test column value || some_
 abbrev pub row_fault : List Column → List Value → Option ℕ
 row_fault cols row = first_that ((some_cell lacks cols row, 515) ∷ (some_cell overflows cols row, 60014) ∷ (nat_lt 8060 (size_of_row row), 60015) ∷ [])
 
--- what refuses a key by itself: more than 900 bytes
+-- what refuses a key by itself: values of more than 900 bytes
 abbrev pub key_fault : List Value → Option ℕ
-key_fault key = if nat_lt 900 (size_of_key key) then Some 60017 else None
+key_fault key = if nat_lt 900 (size_of_values key) then Some 60017 else None
 
 -- what refuses a new row by itself: first as a row, then by its key
 abbrev pub new_row_fault : List Column → List Value → Option ℕ

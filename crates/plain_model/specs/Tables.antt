@@ -1,5 +1,5 @@
 -- Whole tables, and what changes them.
-use Rattle.std.specs.Prelude.{ℕ, nat_le, length, List, [], ◌∷◌, Option, Some, None, map, filter, ◌==◌, if◌then◌else◌}
+use Rattle.std.specs.Prelude.{◌≡◌, ℕ, nat_le, length, List, [], ◌∷◌, Option, Some, None, map, filter, ◌==◌, if◌then◌else◌}
 use Rattle.std.specs.List.{range_with_len}
 use Rattle.std.specs.Ordering.{nat_cmp}
 use Rattle.std.specs.Cmp.Lexicographic.{slice_cmp}
@@ -38,6 +38,16 @@ key_size cols = length (filter (λ c. nat_le 1 c.key) cols)
 -- the key of a row: its values in the columns of the key, in the key's order
 abbrev pub key_of : List Column → List Value → List Value
 key_of cols row = map (key_cell cols row) (range_with_len 1 (key_size cols))
+
+-- each row of the table stands by its own key
+pub record IsKeyed (t : Table) : Type 0 where
+  pub at : (key row : List Value) → finite.get t.rows key ≡ Some row → key ≡ key_of t.cols row
+
+-- these columns and these rows, in ascending order of keys and each by its own key, are the table
+pub record IsTable (cols : List Column) (rows : List (List Value)) (t : Table) : Type 0 where
+  pub columns : t.cols ≡ cols
+  pub values : rows_of t ≡ rows
+  pub keys : finite.keys t.rows ≡ map (key_of cols) rows
 
 -- one change: a row is put in place of the one of its key, a key's row is cut, a table is added or removed
 pub data Change : Type 0 where

@@ -29,8 +29,8 @@ argument cols row CountAll = Some Null
 argument cols row (SumOf e) = value_of cols row (tree_of e)
 
 -- a row that the filter keeps is taken by its arguments
-abbrev pub summed_row : List Column → Option Expr → List Sum → List Value → Outcome (List Value)
-summed_row cols filter sums row = behind (keeps cols filter row) (or_overflow (all_of (map (argument cols row) sums)))
+abbrev pub summed_row : List Sum → Option Expr → List Column → List Value → Outcome (List Value)
+summed_row sums filter cols row = behind (keeps cols filter row) (or_overflow (all_of (map (argument cols row) sums)))
 
 -- the exact sum
 abbrev pub total : List ℤ → ℤ
@@ -73,4 +73,4 @@ totals_reply cols sums (result.Err m) = Msg m
 
 -- a SELECT of aggregates
 abbrev pub select_totals : List Sum → Option Expr → Table → Reply
-select_totals sums filter t = totals_reply t.cols sums (taken_from 1 (map (summed_row t.cols filter sums) (rows_of t)))
+select_totals sums filter t = totals_reply t.cols sums (taken_from 1 (map (summed_row sums filter t.cols) (rows_of t)))

@@ -114,8 +114,8 @@ module _ {X : Type 0} (less : X → X → Bool) where
     first_same : (y z : X) (ys zs : List X) → ties less y z ≡ true → filter (ties less y) (y ∷ ys) ≡ filter (ties less y) (z ∷ zs) → y ≡ z
     first_same y z ys zs t h =
         let e : y ∷ filter (ties less y) ys ≡ z ∷ filter (ties less y) zs =
-            ap (λ (b : Bool). cond b (y ∷ filter (ties less y) ys) (filter (ties less y) ys)) (sym (ties_itself y)) ∙ h
-            ∙ ap (λ (b : Bool). cond b (z ∷ filter (ties less y) zs) (filter (ties less y) zs)) t in cc
+        ap (λ (b : Bool). cond b (y ∷ filter (ties less y) ys) (filter (ties less y) ys)) (sym (ties_itself y)) ∙ h
+        ∙ ap (λ (b : Bool). cond b (z ∷ filter (ties less y) zs) (filter (ties less y) zs)) t in cc
 
     rest_same : (b : Bool) (y z : X) (ys zs : List X) → cond b (y ∷ ys) ys ≡ cond b (z ∷ zs) zs → ys ≡ zs
     rest_same true y z ys zs h = cc
@@ -133,7 +133,7 @@ module _ {X : Type 0} (less : X → X → Bool) where
         let q : less z y ≡ false = first_not_less z y zs ys u.0 (sym (h z)) in
         let same : y ≡ z = first_same y z ys zs (ties_when y z p q) (h y) in
         let rest : ys ≡ zs = one_order ys zs u.1 v.1 (λ t. rest_same (ties less t y) y z (filter (ties less t) ys) (filter (ties less t) zs)
-          (h t ∙ ap (λ (w : X). cond (ties less t w) (z ∷ filter (ties less t) zs) (filter (ties less t) zs)) (sym same))) in
+        (h t ∙ ap (λ (w : X). cond (ties less t w) (z ∷ filter (ties less t) zs) (filter (ties less t) zs)) (sym same))) in
         cc
 
     -- what std's stable sort leaves is the one order

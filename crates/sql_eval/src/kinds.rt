@@ -51,7 +51,7 @@ fn from_column(kind: ColType) -> ExprType
 }
 
 /// The type of the first column of a name; None where there is none.
-pub(crate) fn column_type(cols: &Columns, name: &Name) -> Option<ExprType>
+pub fn column_type(cols: &Columns, name: &Name) -> Option<ExprType>
     ensures { result ≡ column_type cols.now name.now }
 {
     let found = cols
@@ -79,7 +79,7 @@ pub(crate) fn math_type(a: ExprType, b: ExprType) -> Option<ExprType>
 }
 
 /// Of two numbers or of two texts: a truth.
-pub(crate) fn comparison_type(a: ExprType, b: ExprType) -> Option<ExprType>
+pub fn comparison_type(a: ExprType, b: ExprType) -> Option<ExprType>
     ensures { result ≡ comparison_type a b }
 {
     if (is_number(a) && is_number(b)) || (is_text(a) && is_text(b)) {

@@ -17,8 +17,8 @@ pub(crate) fn literal(number: i64) -> Value
     }
 }
 
-// The number as a BIGINT or as an INT; None is an overflow.
-fn stored(big: bool, number: i64) -> Option<Value>
+/// The number as a BIGINT or as an INT; None is an overflow.
+pub fn stored(big: bool, number: i64) -> Option<Value>
     ensures { result ≡ stored big number }
 {
     if big {
@@ -30,8 +30,8 @@ fn stored(big: bool, number: i64) -> Option<Value>
     }
 }
 
-// The number, where the value is one.
-fn number_in(value: &Value) -> Option<i64>
+/// The number, where the value is one.
+pub fn number_in(value: &Value) -> Option<i64>
     ensures { result ≡ number_in value.now }
 {
     match value {

@@ -18,7 +18,7 @@ fn is_unknown(cols: &Columns, name: &Name) -> bool
 /// The first name from the left that is no column; None where all are.
 #[cycle(unknown)]
 #[tactic(auto, using(crate::proofs::Finding::find_append))]
-pub(crate) fn first_unknown(e: &Expr, cols: &Columns) -> Option<Name>
+pub fn first_unknown(e: &Expr, cols: &Columns) -> Option<Name>
     ensures { result ≡ first_unknown cols.now (tree_of e.now) }
 {
     match e {

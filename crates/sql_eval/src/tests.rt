@@ -1,8 +1,8 @@
 //! Values, truths and types of expressions, worked out by hand for each operator.
 
-use crate::{EvalRefusal, ExprType, TypeRefusal, truth, type_of, value};
-use page_base::{Bytes, ColType, Column, Columns, Name, NoMemory, Row, Truth, Value};
-use plain_model::{CompareOp, Expr, InRest, MathOp};
+use crate::{EvalRefusal, ExprType, TypeRefusal, order_rows, truth, type_of, value};
+use page_base::{Bytes, ColType, Column, Columns, Name, NoMemory, Row, RowList, Truth, Value};
+use plain_model::{CompareOp, Expr, InRest, MathOp, OrderItem, OrderList};
 use std::alloc::Global;
 use std::test::Fail;
 
@@ -378,5 +378,44 @@ fn types_of_sums(rt: HostRuntime) -> Result<(), Fail> {
     assert!(rt; sum_type(alloc, &cols, b"a", b"a")? == Ok(ExprType::Int));
     assert!(rt; sum_type(alloc, &cols, b"a", b"b")? == Ok(ExprType::Big));
     assert!(rt; sum_type(alloc, &cols, b"a", b"c")? == Err(TypeRefusal::Kind));
+    Ok(())
+}
+
+// Rows of two columns `a` and `b`, of which `b` may be NULL.
+fn pairs(alloc: Global, list: &[(i32, Option<i64>)]) -> Result<RowList, NoMemory> {
+    let mut rows = RowList::new(alloc);
+    for (a, b) in list {
+        let mut row = Row::new(alloc);
+        row.push(Value::Int(*a))?;
+        row.push(match b {
+            Some(number) => Value::Big(*number),
+            None => Value::Null,
+        })?;
+        rows.push(row)?;
+    }
+    Ok(rows)
+}
+
+// ORDER BY b, or ORDER BY b DESC
+fn by_b(alloc: Global, down: bool) -> Result<OrderList, Fail> {
+    let mut by = OrderList::new(alloc);
+    by.push(OrderItem {
+        col: Name::read(b"b")?,
+        down,
+    })?;
+    Ok(by)
+}
+
+#[test]
+fn rows_in_the_order_of_a_column(rt: HostRuntime) -> Result<(), Fail> {
+    let alloc = rt.alloc();
+    let cols = columns(alloc)?;
+    let list = [(1, Some(5)), (2, None), (3, Some(-7)), (4, Some(5))];
+    let up = order_rows(pairs(alloc, &list)?, &cols, &by_b(alloc, false)?)?;
+    let want = [(2, None), (3, Some(-7)), (1, Some(5)), (4, Some(5))];
+    assert!(rt; up == pairs(alloc, &want)?);
+    let down = order_rows(pairs(alloc, &list)?, &cols, &by_b(alloc, true)?)?;
+    let want = [(1, Some(5)), (4, Some(5)), (3, Some(-7)), (2, None)];
+    assert!(rt; down == pairs(alloc, &want)?);
     Ok(())
 }

@@ -13,9 +13,9 @@ use crate::{ExprType, TypeRefusal};
 use page_base::Columns;
 use plain_model::{Expr, InRest};
 
-// The type; None where the types of the parts don't fit.
+/// The type of an expression; None where a name is no column, or the types of the parts don't fit. Takes no memory.
 #[cycle(typing)]
-fn tree_type(e: &Expr, cols: &Columns) -> Option<ExprType>
+pub fn tree_type(e: &Expr, cols: &Columns) -> Option<ExprType>
     ensures { result ≡ tree_type cols.now (tree_of e.now) }
 {
     match e {

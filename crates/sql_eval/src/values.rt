@@ -14,7 +14,7 @@ use plain_model::Expr;
 use std::alloc::Global;
 
 /// The place of the first column of a name.
-pub(crate) fn place_of(cols: &Columns, name: &Name) -> Option<usize>
+pub fn place_of(cols: &Columns, name: &Name) -> Option<usize>
     ensures { result ≡ place_of cols.now name.now }
 {
     cols.as_slice()
@@ -32,8 +32,8 @@ fn copy_at(alloc: Global, row: &Row, place: usize) -> Result<Value, NoMemory>
     }
 }
 
-// The value under a column's name, once more; NULL where no column has the name.
-fn cell(alloc: Global, cols: &Columns, row: &Row, name: &Name) -> Result<Value, NoMemory>
+/// The value under a column's name, once more; NULL where no column has the name.
+pub fn cell(alloc: Global, cols: &Columns, row: &Row, name: &Name) -> Result<Value, NoMemory>
     ensures { IfOk result (λ value. value ≡ cell cols.now row.now name.now) }
 {
     match place_of(cols, name) {

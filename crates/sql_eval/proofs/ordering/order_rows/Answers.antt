@@ -12,6 +12,6 @@ returns c =
     let by = c.args.by.now in
     c.from.ensures
     ∙ sorted_once (is_before cols by) (is_before_ranks cols by) c.into_vec-sorted.result.items c.sort_by.new.self.items
-      (c.in_ok-sort_by.ensures.sorted (is_before cols by) (is_before_ranks cols by) (always_returns_same _ _ _ (λ a r f k. search rules)))
-      (c.in_ok-sort_by.ensures.stable (is_before cols by) (is_before_ranks cols by) (always_returns_same _ _ _ (λ a r f k. search rules)))
+    (c.in_ok-sort_by.ensures.sorted (is_before cols by) (is_before_ranks cols by) (always_returns_same _ _ _ (λ a r f k. search rules)))
+    (c.in_ok-sort_by.ensures.stable (is_before cols by) (is_before_ranks cols by) (always_returns_same _ _ _ (λ a r f k. search rules)))
     ∙ ap (sorted_by (is_before cols by)) c.into_vec-sorted.ensures

@@ -1,0 +1,4 @@
+pub mod Refusing
+pub mod Given
+pub mod Keys
+pub mod Verdicts
