@@ -29,6 +29,8 @@ use Rattle.engine_core.proofs.AtOnce.{eq_is, unbuilt_comes, broken_comes, memory
 use Rattle.engine_core.proofs.Coming.{bad_comes}
 use Rattle.engine_core.proofs.Decisions.{decides_only, refuses_only, other_number, no_failure}
 use Rattle.engine_core.specs.Causes.{IsRoomReply, IsNoFailure}
+use Rattle.engine_core.specs.Seeing.{IsSelect}
+use Rattle.engine_core.proofs.SelectLemmas.{as_select}
 use Rattle.plain_model.specs.declared.reply.Carried.TheVariants.{Nothing, Number}
 
 abbrev pub now : Message → Decision
@@ -107,11 +109,14 @@ module _ (v : Shown) (opening : Opening) (current : List ℕ) (seen : Seen) (set
   enters e l = decides_only opening opening.source current v seen (UseDb name) (AtOnce Fine) setting refl tt tt tt (use_comes opening current seen (catalog v) setting.ordered setting.apart name db means e l)
 
 -- SELECT
-module _ (v : Shown) (db : Database) (s : SelectStmt) (b : is_built (Select s) ≡ true) where
+pub simple_select : (stmt : Stmt) (name : List ℕ) → IsSelect stmt name → IsPlain stmt (Msg (plain 701))
+simple_select stmt name h = as_select (λ stmt name. IsPlain stmt (Msg (plain 701))) stmt name h tt
+
+module _ (v : Shown) (db : Database) (s : SelectStmt) where
   pub see_lost : is_lost (catalog v) db ≡ true → Decides v db (Select s) (now (plain 926))
   see_lost l opening current seen setting means =
       refuses_only opening opening.source current v seen (Select s) (AtOnce (Msg (plain 926))) 926 Nothing refl refl refl setting tt
-      (select_lost opening current seen (catalog v) setting.ordered setting.apart db means s b (out db l) (shot db l) l)
+      (select_lost opening current seen (catalog v) setting.ordered setting.apart db means s refl (out db l) (shot db l) l)
     where
       out : (d : Database) → is_lost (catalog v) d ≡ true → is_home d ≡ false
       out Source e = absurd (let x : false ≡ true = e in cc)
@@ -128,7 +133,7 @@ module _ (v : Shown) (db : Database) (s : SelectStmt) (b : is_built (Select s) �
   pub see_nowhere : is_home db ≡ false → is_shot db ≡ false → Decides v db (Select s) (now (plain 208))
   see_nowhere h n opening current seen setting means =
       refuses_only opening opening.source current v seen (Select s) (AtOnce (Msg (plain 208))) 208 Nothing refl refl refl setting tt
-      (select_refused opening current seen (catalog v) setting.ordered setting.apart db means s b h n)
+      (select_refused opening current seen (catalog v) setting.ordered setting.apart db means s refl h n)
 
 pub broken : (v : Shown) (db : Database) (at : ℕ) → Decides v db (Broken at) (record { answer = AtOnce (Msg (at_place 102 at)); edits = [] })
 broken v db at opening current seen setting means =

@@ -9,12 +9,13 @@ use Rattle.plain_model.specs.declared.stmt.Stmt.{Stmt}
 use Rattle.plain_model.specs.declared.stmt.Stmt.TheVariants.{Select, CreateSnap, Broken}
 use Rattle.plain_model.specs.declared.stmt.SelectStmt.{SelectStmt}
 use Rattle.plain_model.specs.declared.stmt.SnapFile.{SnapFile}
+use Rattle.plain_model.specs.declared.reply.Message.{Message}
 use Rattle.plain_model.specs.declared.reply.Reply.{Reply}
 use Rattle.plain_model.specs.declared.reply.Reply.TheVariants.{Msg, Rows, Count}
 use Rattle.plain_model.specs.declared.reply.Reply.TheVariants.{Ok as Fine}
 use Rattle.plain_model.specs.Tables.{Table, Tables}
 use Rattle.plain_model.specs.State.{committed, copy}
-use Rattle.plain_model.specs.Meaning.{plain, shape}
+use Rattle.plain_model.specs.Meaning.{plain, shape, change_and_reply}
 use Rattle.plain_model.specs.Next.{Replies, unless_shape, answers, is_built}
 use Rattle.snap_pages.specs.declared.state.SnapState.{SnapState}
 use Rattle.snap_pages.specs.declared.state.SnapState.TheVariants.{Making, Online, Suspect}
@@ -34,13 +35,14 @@ use Rattle.engine_core.specs.Entering.{Kept}
 use Rattle.engine_core.specs.Pushing.{is_suspect, snaps_of, sound, name_of, Pushes}
 use Rattle.engine_core.specs.Ready.{Seen, Comes, reply_of}
 use Rattle.engine_core.specs.Stepping.{tables_after, current_after, IsPlain}
-use Rattle.engine_core.specs.Seeing.{selected}
+use Rattle.engine_core.specs.Seeing.{selected, unless_refused}
 use Rattle.engine_core.specs.Deciding.{AreApart, Setting, IsDecision, IsStill, IsSeeing, IsCut, IsCourse}
 use Rattle.engine_core.specs.Safe.{Run, state, seen_by, seat_at, no_seat, script_at, AreInts, AreTables, Safe}
 use Rattle.engine_core.specs.Doing.{Does}
 use Rattle.engine_core.specs.Steps.{next_stmt, HasNext}
 use Rattle.engine_core.proofs.AtOnce.{memory_comes, select_lost, select_comes}
 use Rattle.engine_core.proofs.SeatLemmas.{dues_set}
+use Rattle.engine_core.proofs.SelectLemmas.{select_stays}
 use Rattle.engine_core.proofs.SafeLemmas.{safe_statement, same_tables, same_pages}
 
 -- WHAT COMES WHERE SNAPSHOTS TURNED MEANWHILE
@@ -51,19 +53,13 @@ under_locks e current seen old new stmt (AtOnce reply) edits none same comes = s
 under_locks e current seen old new stmt (UnderAll mode reply) edits none same comes = comes
 under_locks e current seen old new stmt (UnderTable name mode reply) edits none same comes = comes
 
--- what a SELECT of all rows answers is its meaning
-pub select_means : (s : SelectStmt) (tables : Tables) → unless_shape (shape (Select s) tables) (answers (Select s) tables) ≡ Replies (selected s.table tables)
-select_means s tables = go (finite.get tables s.table) refl
+-- what a SELECT answers is its meaning
+pub select_means : (s : SelectStmt) (tables : Tables) → unless_shape (shape (Select s) tables) (answers (Select s) tables) ≡ Replies (selected (Select s) s.table tables)
+select_means s tables = go (shape (Select s) tables) (change_and_reply (Select s) tables).1
   where
-    go : (o : Option Table) → finite.get tables s.table ≡ o → unless_shape (shape (Select s) tables) (answers (Select s) tables) ≡ Replies (selected s.table tables)
-    go None e = rw e refl
-    go (Some t) e = rw e refl
-
-pub select_stays : (s : SelectStmt) (r : Reply) (t : Tables) → tables_after (Select s) r t ≡ t
-select_stays s (Msg m) t = refl
-select_stays s Fine t = refl
-select_stays s (Count n) t = refl
-select_stays s (Rows rs) t = refl
+    go : (refusal : Option Message) (reply : Reply) → unless_shape refusal (Replies reply) ≡ Replies (unless_refused refusal reply)
+    go None reply = refl
+    go (Some m) reply = refl
 
 select_keeps : (s : SelectStmt) (r : Reply) (c : List ℕ) → current_after (Select s) r c ≡ c
 select_keeps s (Msg m) c = refl
@@ -166,7 +162,7 @@ module _ (e : Run) (safe : Safe e) (i : ℕ) (next : HasNext e i) where
 
   module _ (s : SnapNo) (name : List ℕ) (seeing : IsSeeing e.opening (seat_at e i).current e.shown (next_stmt e i) s name) (v : Shown) (kept : Kept) (pushes : Pushes e.shown v) (ordered : IsCatalog (catalog v)) (reply : Reply)
       (does : Does (i + 1) ((seat_at e i).said + 1) (AtOnce reply) e.kept kept e.shown v) (lost : state_of v s ≡ Suspect → reply ≡ Msg (plain 926))
-      (replies : IsKept v s → (tables : Tables) → AreTables (data_pages v) (view v s) tables → (reply ≡ Msg (plain 701)) ⊎ (reply ≡ selected name tables)) where
+      (replies : IsKept v s → (tables : Tables) → AreTables (data_pages v) (view v s) tables → (reply ≡ Msg (plain 701)) ⊎ (reply ≡ selected (next_stmt e i) name tables)) where
     abbrev current : List ℕ
     current = (seat_at e i).current
 
@@ -202,7 +198,8 @@ module _ (e : Run) (safe : Safe e) (i : ℕ) (next : HasNext e i) where
       | inr ne ↦ elim (replies (kept_now told ne.0) (copy (state e) current) (tables_now (kept_now told ne.0))) [
         | inl none ↦ subst Answer_comes (sym none) (memory_comes e.opening current seen (catalog v) ordered apart_now (Snap s) means_now (Select seeing.select) refl ne.1)
         | inr rows ↦ select_comes e.opening current seen (catalog v) ordered apart_now (Snap s) means_now seeing.select reply (subst (λ (x : Stmt). is_built x ≡ true) seeing.is seeing.built) refl refl ne.1
-            (select_means seeing.select (copy (state e) current) ∙ ap Replies (ap (λ (n : List ℕ). selected n (copy (state e) current)) seeing.table ∙ sym rows))
+            (select_means seeing.select (copy (state e) current)
+                ∙ ap Replies (ap (λ (n : List ℕ). selected (Select seeing.select) n (copy (state e) current)) seeing.table ∙ ap (λ (x : Stmt). selected x name (copy (state e) current)) (sym seeing.is) ∙ sym rows))
       ]
     ]
 

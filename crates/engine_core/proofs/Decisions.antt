@@ -16,10 +16,13 @@ use Rattle.plain_model.specs.declared.stmt.SelectStmt.{SelectStmt}
 use Rattle.plain_model.specs.Sound.{is_definition}
 use Rattle.plain_model.specs.declared.stmt.UpdateStmt.{UpdateStmt}
 use Rattle.plain_model.specs.declared.stmt.SetItem.{SetItem}
-use Rattle.plain_model.specs.Meaning.{has_column, is_key_column, update_shape, updated_rows, with_sets, plain, at_place, literal, new_rows, shown_rows, first_clash, create_shape, insert_shape, select_shape, shape, insert_data, change_and_reply}
+use Rattle.plain_model.specs.Meaning.{has_column, is_key_column, update_shape, updated_rows, with_sets, plain, at_place, literal, new_rows, first_clash, create_shape, insert_shape, shape, insert_data, change_and_reply}
 use Rattle.plain_model.specs.Next.{is_int, is_built, is_small_number, is_one_set}
 use Rattle.table_pages.specs.declared.edit.Edit.{Edit}
 use Rattle.engine_core.specs.declared.answer.Answer.TheVariants.{AtOnce, UnderAll, UnderTable}
+use Rattle.plain_model.specs.Statements.{shape_over, data_over}
+use Rattle.engine_core.specs.Seeing.{unless_refused}
+use Rattle.engine_core.proofs.SelectLemmas.{IsHarmless, select_harmless, select_room, select_stays}
 use Rattle.engine_core.proofs.Stepping.{both}
 use Rattle.engine_core.proofs.Coming.{of_insert, of_select, of_update, shape_comes, reply_comes, room_comes, taken_comes, made_comes, full_comes}
 use Rattle.std.specs.FinMap as finite
@@ -179,16 +182,26 @@ module _ (opening : Opening) (v : Shown) (seen : Seen) (setting : Setting openin
             fine = tt;
           }
 
-  -- SELECT OF WHOLE ROWS
+  -- SELECT
 
-  module _ (s : SelectStmt) (b : is_built (Select s) ≡ true) where
+  module _ (s : SelectStmt) where
     pub select_none : finite.get seen.source s.table ≡ None → IsDecision opening opening.source v seen (Select s) (record { answer = UnderAll S (Msg (plain 208)); edits = [] })
     select_none none = refuses_only opening opening.source opening.source v seen (Select s) (UnderAll S (Msg (plain 208))) 208 Nothing refl refl refl setting tt
-        (shape_comes opening opening.source seen (snaps_of v) refl (Select s) s.table S (of_select s b) (plain 208) (ap select_shape none))
+        (shape_comes opening opening.source seen (snaps_of v) refl (Select s) s.table S (of_select s refl) (plain 208) (ap (shape_over (Select s)) none))
 
-    pub select_rows : (t : Table) → finite.get seen.source s.table ≡ Some t → IsDecision opening opening.source v seen (Select s) (record { answer = UnderTable s.table S (Rows (shown_rows (rows_of t))); edits = [] })
-    select_rows t there = decides_only opening opening.source opening.source v seen (Select s) (UnderTable s.table S (Rows (shown_rows (rows_of t)))) setting refl tt tt tt
-        (reply_comes opening opening.source seen (snaps_of v) refl (Select s) s.table S (of_select s b) (Rows (shown_rows (rows_of t))) (ap select_shape there) (ap (λ o. Rows (shown_rows (rows_of (unwrap_or o (record { cols = []; rows = finite.empty }))))) there))
+    module _ (t : Table) (there : finite.get seen.source s.table ≡ Some t) where
+      pub select_refused : (m : Message) → shape_over (Select s) (Some t) ≡ Some m → IsDecision opening opening.source v seen (Select s) (record { answer = UnderAll S (Msg m); edits = [] })
+      select_refused m e =
+          let h = subst IsHarmless (ap (λ (o : Option Message). unless_refused o (data_over (Select s) t).1) e) (select_harmless s t) in
+          decides_only opening opening.source opening.source v seen (Select s) (UnderAll S (Msg m)) setting refl tt (select_room v s (Msg m) h.0) h.1
+          (shape_comes opening opening.source seen (snaps_of v) refl (Select s) s.table S (of_select s refl) m (ap (shape_over (Select s)) there ∙ e))
+
+      pub select_does : (reply : Reply) → shape_over (Select s) (Some t) ≡ None → (data_over (Select s) t).1 ≡ reply → IsDecision opening opening.source v seen (Select s) (record { answer = UnderTable s.table S reply; edits = [] })
+      select_does reply e is =
+          let h = subst IsHarmless (ap (λ (o : Option Message). unless_refused o (data_over (Select s) t).1) e ∙ is) (select_harmless s t) in
+          decides_only opening opening.source opening.source v seen (Select s) (UnderTable s.table S reply) setting (select_stays s reply seen.source) tt (select_room v s reply h.0) h.1
+          (reply_comes opening opening.source seen (snaps_of v) refl (Select s) s.table S (of_select s refl) reply (ap (shape_over (Select s)) there ∙ e)
+              (ap (λ (o : Option Table). (data_over (Select s) (unwrap_or o (record { cols = []; rows = finite.empty }))).1) there ∙ is))
 
   -- INSERT into no table
   pub insert_none : (i : InsertStmt) → is_built (Insert i) ≡ true → finite.get seen.source i.table ≡ None → IsDecision opening opening.source v seen (Insert i) (record { answer = UnderAll S (Msg (plain 208)); edits = [] })

@@ -6,6 +6,7 @@ mod Coming
 mod Placed
 mod AtOnce
 mod EditLemmas
+mod SelectLemmas
 mod SeeLemmas
 mod Decisions
 mod Choices

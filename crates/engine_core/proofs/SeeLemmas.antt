@@ -6,10 +6,12 @@ use Rattle.page_base.specs.declared.numbers.PageId.{PageId}
 use Rattle.page_base.specs.declared.numbers.SnapNo.{SnapNo}
 use Rattle.page_fmt.specs.Content.{content, IsPage}
 use Rattle.page_fmt.specs.Edits.{slot_at}
-use Rattle.plain_model.specs.Tables.{Table, Tables, rows_of}
-use Rattle.plain_model.specs.Meaning.{plain, shown_rows}
+use Rattle.std.specs.Prelude.{Some}
+use Rattle.plain_model.specs.declared.stmt.Stmt.{Stmt}
+use Rattle.plain_model.specs.Tables.{Table, Tables}
+use Rattle.plain_model.specs.Meaning.{plain}
 use Rattle.plain_model.specs.declared.reply.Reply.{Reply}
-use Rattle.plain_model.specs.declared.reply.Reply.TheVariants.{Rows, Msg}
+use Rattle.plain_model.specs.declared.reply.Reply.TheVariants.{Msg}
 use Rattle.snap_pages.specs.declared.state.Place.{Place}
 use Rattle.snap_pages.specs.declared.state.Place.TheVariants.{Sparse, Through}
 use Rattle.snap_pages.specs.Sparse as sparse
@@ -22,7 +24,8 @@ use Rattle.table_pages.specs.Carried.{data_pages, Holds}
 use Rattle.table_pages.proofs.CallerLemmas.{passed_more, passed_all, passed_to_blank, found_named}
 use Rattle.engine_core.specs.Pushing.{Pushes}
 use Rattle.engine_core.specs.Safe.{AreTables}
-use Rattle.engine_core.specs.Seeing.{Shows, selected, rows_or_none}
+use Rattle.engine_core.specs.Seeing.{Shows, IsSelect, replied, selected}
+use Rattle.engine_core.proofs.SelectLemmas.{select_nothing}
 use Rattle.engine_core.specs.declared.seeing.Glance.TheVariants.{Blank, Named, Other, Damaged}
 
 not_copied : (b : Bool) (r : Place) → r ≡ Through → (r ≡ Sparse ↔ (b ≡ true)) → b ≡ false
@@ -54,22 +57,22 @@ module _ (v w : Shown) (s : SnapNo) (i : ℕ) (name image : List ℕ) (pushes : 
       below = subst (λ m. i < m) n_is lt
 
       -- a blank page ends the search
-      pub blank_ends : Shows image name Blank → Msg (plain 208) ≡ selected name tables
-      blank_ends shows =
+      pub blank_ends : (stmt : Stmt) → IsSelect stmt name → Shows image name Blank → Msg (plain 208) ≡ selected stmt name tables
+      blank_ends stmt select shows =
           let none = passed_to_blank (data_pages w) (slots_of (view w s)) tables are.says i name below are.packed (subst (λ (x : List ℕ). slot_at (content x) 0 ≡ []) read shows) still in
-          sym (ap rows_or_none none)
+          select_nothing stmt name select ∙ sym (ap (replied stmt) none)
 
       -- the table's own page
-      pub named_ends : (reply : Reply) → Shows image name Named → ((held : List ℕ) (t : Table) → Holds image held t → reply ≡ Rows (shown_rows (rows_of t))) → reply ≡ selected name tables
-      named_ends reply shows rows =
+      pub named_ends : (stmt : Stmt) (reply : Reply) → Shows image name Named → ((held : List ℕ) (t : Table) → Holds image held t → reply ≡ replied stmt (Some t)) → reply ≡ selected stmt name tables
+      named_ends stmt reply shows rows =
           let full = subst (λ (x : List ℕ). slot_at (content x) 0 ≢ []) read shows.1 in
           let test = subst (λ (x : List ℕ). (held : List ℕ) (t : Table) → Holds x held t → bytes_eq held name ≡ true) read shows.2 in
           let f = found_named (data_pages w) (slots_of (view w s)) tables are.says i name below full test in
-          rows name f.0 (subst (λ (x : List ℕ). Holds x name f.0) (sym read) f.1) ∙ sym (ap rows_or_none f.2)
+          rows name f.0 (subst (λ (x : List ℕ). Holds x name f.0) (sym read) f.1) ∙ sym (ap (replied stmt) f.2)
 
       pub damaged_never : (at : ℕ) → Shows image name (Damaged at) → ⊥
       damaged_never at shows = shows (subst IsPage (sym read) (are.pages (place i)))
 
 -- all pages were passed
-pub all_end : (w : Shown) (s : SnapNo) (i : ℕ) (name : List ℕ) (tables : Tables) → AreTables (data_pages w) (view w s) tables → data_pages w ≤ i → Passed (slots_of (view w s)) i name → Msg (plain 208) ≡ selected name tables
-all_end w s i name tables are le passed = sym (ap rows_or_none (passed_all (data_pages w) (slots_of (view w s)) tables are.says i name le passed))
+pub all_end : (stmt : Stmt) (w : Shown) (s : SnapNo) (i : ℕ) (name : List ℕ) (tables : Tables) → IsSelect stmt name → AreTables (data_pages w) (view w s) tables → data_pages w ≤ i → Passed (slots_of (view w s)) i name → Msg (plain 208) ≡ selected stmt name tables
+all_end stmt w s i name tables select are le passed = select_nothing stmt name select ∙ sym (ap (replied stmt) (passed_all (data_pages w) (slots_of (view w s)) tables are.says i name le passed))

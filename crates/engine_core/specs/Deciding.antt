@@ -56,7 +56,7 @@ pub record IsDecision (opening : Opening) (current : List ℕ) (v : Shown) (seen
 abbrev pub Decides : Shown → Database → Stmt → Decision → Type 0
 Decides v db stmt d = (opening : Opening) (current : List ℕ) (seen : Seen) → Setting opening opening.source v seen → Means opening.source (catalog v) current db → IsDecision opening current v seen stmt d
 
--- a SELECT of whole rows of this table, in a snapshot that isn't suspect
+-- a SELECT from this table, in a snapshot that isn't suspect
 pub record IsSeeing (opening : Opening) (current : List ℕ) (v : Shown) (stmt : Stmt) (s : SnapNo) (name : List ℕ) : Type 0 where
   pub select : SelectStmt
   pub is : stmt ≡ Select select

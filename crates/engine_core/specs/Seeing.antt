@@ -1,13 +1,19 @@
--- What a reader finds on a snapshot's page, and what a SELECT of whole rows answers.
-use Rattle.std.specs.Prelude.{ℕ, ◌≡◌, ◌≢◌, true, false, List, [], Option, Some, None}
+-- What a reader finds on a snapshot's page, and what a statement about rows answers over its table.
+use Rattle.std.specs.Prelude.{ℕ, ◌≡◌, ◌≢◌, true, false, List, [], Option, Some, None, unwrap_or}
 use Rattle.std.specs.Str.{bytes_eq}
 use Rattle.std.specs.FinMap as finite
 use Rattle.page_fmt.specs.Content.{content, IsPage}
 use Rattle.page_fmt.specs.Edits.{slot_at}
 use Rattle.plain_model.specs.declared.reply.Reply.{Reply}
-use Rattle.plain_model.specs.declared.reply.Reply.TheVariants.{Rows, Msg}
-use Rattle.plain_model.specs.Tables.{Table, Tables, rows_of}
-use Rattle.plain_model.specs.Meaning.{plain, shown_rows}
+use Rattle.plain_model.specs.declared.reply.Reply.TheVariants.{Msg}
+use Rattle.plain_model.specs.declared.reply.Message.{Message}
+use Rattle.plain_model.specs.declared.stmt.SelectStmt.{SelectStmt}
+use Rattle.plain_model.specs.declared.stmt.Stmt.{Stmt}
+use Rattle.plain_model.specs.declared.stmt.Stmt.TheVariants.{Select}
+use Rattle.plain_model.specs.Statements.{shape_over, data_over}
+use Rattle.plain_model.specs.Tables.{Table, Tables}
+use Rattle.stmt_eval.specs.declared.effect.Verdict.{Verdict}
+use Rattle.stmt_eval.specs.Verdicts.{IsVerdict}
 use Rattle.table_pages.specs.Carried.{Holds}
 use Rattle.engine_core.specs.declared.seeing.Glance.{Glance}
 use Rattle.engine_core.specs.declared.seeing.Glance.TheVariants.{Blank, Named, Other, Damaged, Lost}
@@ -21,11 +27,27 @@ Shows image name Other = (slot_at (content image) 0 ≢ []) × ((held : List ℕ
 Shows image name (Damaged at) = ¬ IsPage image
 Shows image name Lost = Unit {0}
 
--- all rows of a table, or that it isn't there
-abbrev pub rows_or_none : Option Table → Reply
-rows_or_none None = Msg (plain 208)
-rows_or_none (Some t) = Rows (shown_rows (rows_of t))
+-- the refusal, if there is one, else the reply
+abbrev pub unless_refused : Option Message → Reply → Reply
+unless_refused (Some m) reply = Msg m
+unless_refused None reply = reply
 
--- what a SELECT of all rows answers over these tables
-abbrev pub selected : List ℕ → Tables → Reply
-selected name tables = rows_or_none (finite.get tables name)
+-- what a statement about rows answers over its table, which may not be there
+abbrev pub replied : Stmt → Option Table → Reply
+replied stmt table = unless_refused (shape_over stmt table) (data_over stmt (unwrap_or table (record { cols = []; rows = finite.empty }))).1
+
+-- what it answers where these are the tables
+abbrev pub selected : Stmt → List ℕ → Tables → Reply
+selected stmt name tables = replied stmt (finite.get tables name)
+
+-- the statement is a SELECT from the table of this name
+pub record IsSelect (stmt : Stmt) (name : List ℕ) : Type 0 where
+  pub select : SelectStmt
+  pub is : stmt ≡ Select select
+  pub table : select.table ≡ name
+
+-- the verdict is the statement's over a table, which is the page's, if the page holds one
+pub record IsVerdictOn (image : List ℕ) (stmt : Stmt) (verdict : Verdict) : Type 0 where
+  pub over : Table
+  pub held : (name : List ℕ) (t : Table) → Holds image name t → over ≡ t
+  pub is : IsVerdict stmt over verdict

@@ -3,7 +3,7 @@
 ghost use Rattle.std.specs.Prelude.{◌≡◌, ◌<◌, ℕ, List, [], true, IfOk, MatchResult, if◌then◌else◌};
 ghost use Rattle.page_base.specs.declared.numbers.PageId.{PageId};
 ghost use Rattle.page_fmt.specs.Content.{IsPage};
-ghost use Rattle.plain_model.specs.declared.stmt.Stmt.TheVariants.{UseDb, CreateTable, Insert, Select, Update};
+ghost use Rattle.plain_model.specs.declared.stmt.Stmt.TheVariants.{UseDb, CreateTable, Insert, Update};
 ghost use Rattle.plain_model.specs.Journal.{Opening};
 ghost use Rattle.plain_model.specs.Sound.{is_sound, are_columns};
 ghost use Rattle.plain_model.specs.Next.{is_built};
@@ -17,6 +17,7 @@ ghost use Rattle.engine_core.specs.declared.answer.Answer.TheVariants.{AtOnce};
 ghost use Rattle.engine_core.specs.Databases.{Means, IsPlaced, is_lost};
 ghost use Rattle.engine_core.specs.Ready.{Seen};
 ghost use Rattle.engine_core.specs.Deciding.{Setting, IsDecision, Decides, IsCourse};
+ghost use Rattle.engine_core.specs.Seeing.{IsSelect};
 ghost use Rattle.engine_core.specs.declared.database.Database.TheVariants.{Source};
 
 use crate::answer::Answer;
@@ -24,11 +25,11 @@ use crate::course::Course;
 use crate::database::{Database, find_database, is_home, is_lost, is_there};
 use crate::deciding::{create_in_source, insert_in_source, select_in_source, update_in_source};
 use crate::decision::{Decision, only};
-use crate::literals::{are_ints, is_one_row, is_one_set, is_whole, new_row};
+use crate::literals::{are_ints, is_one_row, is_one_set, new_row};
 use crate::refusal::{refused, refused_at};
 use page_base::{Columns, Name, NoMemory};
 use page_dev::PageFile;
-use plain_model::{InsertStmt, Reply, SelectStmt, Stmt, UpdateStmt};
+use plain_model::{InsertStmt, Reply, Stmt, UpdateStmt};
 use snap_pages::SnapPages;
 use std::alloc::Global;
 
@@ -169,27 +170,26 @@ fn select<P: PageFile>(
     alloc: Global,
     pages: &SnapPages<P>,
     db: Database,
-    stmt: &SelectStmt,
+    stmt: &Stmt,
+    name: &Name,
 ) -> Course
     requires few { data_pages pages.now < 4294967295 }
     requires pages { (p : PageId) → IsPage (img pages.now p) }
     requires packed { IsPacked (data_pages pages.now) (slots_of (img pages.now)) }
     requires placed { IsPlaced (catalog pages.now) db }
+    requires select { IsSelect stmt.now name.now }
     ensures { (opening : Opening) (current : List ℕ) (seen : Seen) → Setting opening opening.source pages.now seen →
-        Means opening.source (catalog pages.now) current db → IsCourse opening current pages.now seen (Select stmt.now) result }
+        Means opening.source (catalog pages.now) current db → IsCourse opening current pages.now seen stmt.now result }
 {
-    if !is_whole(stmt) {
-        return Course::Answers(at_once(alloc, 60098));
-    }
     if is_lost(pages, db) {
         return Course::Answers(at_once(alloc, 926));
     }
     match db {
         Database::Source => Course::Answers(or_no_memory(
             alloc,
-            select_in_source(alloc, pages, stmt),
+            select_in_source(alloc, pages, stmt, name),
         )),
-        Database::Snap(s) => Course::See(s, stmt.table),
+        Database::Snap(s) => Course::See(s, *name),
         Database::Master => Course::Answers(at_once(alloc, 208)),
         Database::Absent => Course::Answers(at_once(alloc, 208)),
     }
@@ -216,7 +216,7 @@ pub(crate) fn choose<P: PageFile>(
         Stmt::CreateTable(name, cols) => Course::Answers(create(alloc, pages, db, name, cols)),
         Stmt::Insert(stmt) => Course::Answers(insert(alloc, pages, db, stmt)),
         Stmt::Update(stmt) => Course::Answers(update(alloc, pages, db, stmt)),
-        Stmt::Select(stmt) => select(alloc, pages, db, stmt),
+        Stmt::Select(from) => select(alloc, pages, db, stmt, &from.table),
         Stmt::CreateSnap { .. } => Course::Cut,
         Stmt::Broken { at } => Course::Answers(only(
             alloc,

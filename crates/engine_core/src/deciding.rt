@@ -3,7 +3,7 @@
 ghost use Rattle.std.specs.Prelude.{◌≡◌, ◌<◌, ◌∷◌, [], ℕ, List, true, false, Some, length, ◌==◌, IfOk};
 ghost use Rattle.page_base.specs.declared.numbers.PageId.{PageId};
 ghost use Rattle.page_fmt.specs.Content.{IsPage};
-ghost use Rattle.plain_model.specs.declared.stmt.Stmt.TheVariants.{UseDb, CreateTable, Insert, Select, Update};
+ghost use Rattle.plain_model.specs.declared.stmt.Stmt.TheVariants.{UseDb, CreateTable, Insert, Update};
 ghost use Rattle.plain_model.specs.Journal.{Opening};
 ghost use Rattle.plain_model.specs.Sound.{is_sound, is_definition};
 ghost use Rattle.std.specs.List.{list_all, list_any};
@@ -20,16 +20,19 @@ ghost use Rattle.table_pages.specs.Carried.{data_pages, Holds};
 ghost use Rattle.engine_core.specs.Databases.{Means};
 ghost use Rattle.engine_core.specs.Ready.{Seen};
 ghost use Rattle.engine_core.specs.Deciding.{Setting, IsDecision};
+ghost use Rattle.engine_core.specs.Seeing.{IsSelect};
 ghost use Rattle.engine_core.specs.declared.database.Database.TheVariants.{Source};
 
 use crate::answer::Answer;
 use crate::decision::{Decision, only};
 use crate::refusal::{refused, refused_at};
+use crate::verdicts::verdict_on;
 use page_base::{Column, Columns, Mode, Name, NoMemory, Row};
 use page_dev::PageFile;
-use plain_model::{Reply, SelectStmt, SetList, UpdateStmt};
+use plain_model::{Reply, SetList, Stmt, UpdateStmt};
 use snap_pages::SnapPages;
 use std::alloc::Global;
+use stmt_eval::Verdict;
 use table_pages::{
     Edit, EditList, columns, find, has_key, place, plan_create, plan_insert, plan_update,
     read_table,
@@ -138,28 +141,28 @@ pub(crate) fn insert_in_source<P: PageFile>(
     insert_row(alloc, pages, name, i, row)
 }
 
-// SELECT of whole rows in the source
+// SELECT in the source
 pub(crate) fn select_in_source<P: PageFile>(
     alloc: Global,
     pages: &SnapPages<P>,
-    stmt: &SelectStmt,
+    stmt: &Stmt,
+    name: &Name,
 ) -> Result<Decision, NoMemory>
     requires few { data_pages pages.now < 4294967295 }
     requires pages { (p : PageId) → IsPage (img pages.now p) }
     requires packed { IsPacked (data_pages pages.now) (slots_of (img pages.now)) }
-    requires built { is_built (Select stmt.now) ≡ true }
+    requires select { IsSelect stmt.now name.now }
     ensures { IfOk result (λ d. (opening : Opening) (seen : Seen) → Setting opening opening.source pages.now seen →
-        IsDecision opening opening.source pages.now seen (Select stmt.now) d) }
+        IsDecision opening opening.source pages.now seen stmt.now d) }
 {
-    let Some(i) = find(pages, &stmt.table) else {
+    let Some(i) = find(pages, name) else {
         return Ok(only(alloc, Answer::UnderAll(Mode::S, refused(208))));
     };
-    let table = read_table(alloc, pages.image(place(i)))?;
-    let rows = table.shown_rows(alloc)?;
-    Ok(only(
-        alloc,
-        Answer::UnderTable(stmt.table, Mode::S, Reply::Rows(rows)),
-    ))
+    let answer = match verdict_on(alloc, pages.image(place(i)), stmt)? {
+        Verdict::Refused(message) => Answer::UnderAll(Mode::S, Reply::Msg(message)),
+        Verdict::Does(effect) => Answer::UnderTable(*name, Mode::S, effect.reply),
+    };
+    Ok(only(alloc, answer))
 }
 
 // Whether each column that is set is there.

@@ -282,7 +282,8 @@ impl<V: Volume> Engine<V> {
         let seat = self.seats[place];
         let who = SessNo(place as u8 + 1);
         let began = self.ledger.len() as u32;
-        let reply = select_in(alloc, &mut self.pages, &mut self.ledger, s, name);
+        let stmt = stmt_at(&self.scripts, place, seat.said);
+        let reply = select_in(alloc, &mut self.pages, &mut self.ledger, s, stmt, name);
         let _snaps = self.pages.cat();
         enter_reply(&mut self.ledger, who, seat.said + 1, began, reply);
         self.seats[place] = Seat {

@@ -2,13 +2,13 @@
 
 ghost use Rattle.std.specs.Prelude.{◌≡◌, ◌∷◌, [], true, map, IfOk};
 ghost use Rattle.std.specs.List.{list_all};
-ghost use Rattle.plain_model.specs.declared.stmt.Stmt.TheVariants.{Insert, Select, Update};
+ghost use Rattle.plain_model.specs.declared.stmt.Stmt.TheVariants.{Insert, Update};
 ghost use Rattle.plain_model.specs.Meaning.{literal, new_rows};
 ghost use Rattle.plain_model.specs.Next.{is_built, is_int, is_small_number};
 ghost use Rattle.table_pages.specs.Rows.{is_int_value};
 
 use page_base::{ColType, Column, NoMemory, Row, Value};
-use plain_model::{Expr, ExprList, InsertStmt, Items, SelectStmt, UpdateStmt};
+use plain_model::{Expr, ExprList, InsertStmt, UpdateStmt};
 use std::alloc::Global;
 
 fn is_int(column: &Column) -> bool
@@ -86,13 +86,6 @@ pub(crate) fn new_row(alloc: Global, stmt: &InsertStmt) -> Result<Row, NoMemory>
         [entries] => literals(alloc, entries.as_slice()),
         _ => Ok(Row::new(alloc)),
     }
-}
-
-/// Whether a SELECT shows whole rows of a whole table.
-pub(crate) fn is_whole(stmt: &SelectStmt) -> bool
-    ensures { result ≡ is_built (Select stmt.now) }
-{
-    matches!(stmt.items, Items::Star) && stmt.filter.is_none() && stmt.order.is_empty()
 }
 
 /// Whether an UPDATE sets one column of all rows to a number that an INT column takes.

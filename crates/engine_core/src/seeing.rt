@@ -1,10 +1,10 @@
 //! A SELECT in a snapshot: its pages are read one by one, each from the sparse file or through it, up to the table's.
 
-ghost use Rattle.std.specs.Prelude.{◌≡◌, ◌≢◌, ◌⊎◌, ◌<◌, ◌≤◌, true, OnOk, OnErr, IfOk, List, ℕ};
+ghost use Rattle.std.specs.Prelude.{◌≡◌, ◌≢◌, ◌⊎◌, ◌<◌, ◌≤◌, true, OnOk, OnErr, IfOk, List, ℕ, Some};
 ghost use Rattle.page_fmt.specs.Content.{IsPage};
-ghost use Rattle.plain_model.specs.declared.reply.Reply.TheVariants.{Rows, Msg};
-ghost use Rattle.plain_model.specs.Meaning.{plain, shown_rows};
-ghost use Rattle.plain_model.specs.Tables.{Table, Tables, rows_of};
+ghost use Rattle.plain_model.specs.declared.reply.Reply.TheVariants.{Msg};
+ghost use Rattle.plain_model.specs.Meaning.{plain};
+ghost use Rattle.plain_model.specs.Tables.{Table, Tables};
 ghost use Rattle.snap_pages.specs.declared.state.SnapState.TheVariants.{Suspect};
 ghost use Rattle.snap_pages.specs.Sparse.{is_copied};
 ghost use Rattle.snap_pages.specs.Shown.{IsThere, IsOpen, set_of, state_of};
@@ -13,20 +13,21 @@ ghost use Rattle.table_pages.specs.Layout.{place};
 ghost use Rattle.table_pages.specs.Carried.{data_pages, Holds};
 ghost use Rattle.engine_core.specs.Pushing.{Pushes, Turns, sound};
 ghost use Rattle.engine_core.specs.Safe.{AreTables};
-ghost use Rattle.engine_core.specs.Seeing.{Shows, selected};
+ghost use Rattle.engine_core.specs.Seeing.{Shows, IsSelect, replied, selected};
 ghost use Rattle.engine_core.specs.Causes.{IsNoShortage, IsNoFailure};
 ghost use Rattle.engine_core.specs.declared.seeing.Glance.TheVariants.{Lost};
 
 use crate::Ledger;
 use crate::pushing::turn;
 use crate::refusal::{refused, refused_at};
+use crate::verdicts::{reply_by, verdict_on};
 use page_base::{Failed, Image, Name, NoMemory, PageId, SnapNo};
 use page_dev::PageFile;
 use page_fmt::check;
-use plain_model::Reply;
+use plain_model::{Reply, Stmt};
 use snap_pages::{Place, SnapPages};
 use std::alloc::Global;
-use table_pages::{data_pages, is_blank, is_named, place, read_table};
+use table_pages::{data_pages, is_blank, is_named, place};
 
 /// What a page of a snapshot is to somebody who looks for a table.
 #[derive(Clone, Copy, Debug, PartialEq, Eq)]
@@ -139,25 +140,26 @@ fn look_for<P: PageFile>(
     }
 }
 
-// The rows of the table that was found.
-fn shown(alloc: Global, image: &Image) -> Result<Reply, NoMemory>
-    requires { IsPage image.now }
-    ensures reply { IfOk result (λ reply. (held : List ℕ) (t : Table) → Holds image.now held t → reply ≡ Rows (shown_rows (rows_of t))) }
+// What a SELECT answers over the table that was found.
+fn shown(alloc: Global, image: &Image, stmt: &Stmt, name: &Name) -> Result<Reply, NoMemory>
+    requires page { IsPage image.now }
+    requires select { IsSelect stmt.now name.now }
+    ensures reply { IfOk result (λ reply. (held : List ℕ) (t : Table) → Holds image.now held t → reply ≡ replied stmt.now (Some t)) }
     ensures room { IfOk result IsNoShortage }
     ensures volume { IfOk result IsNoFailure }
 {
-    let table = read_table(alloc, image)?;
-    Ok(Reply::Rows(table.shown_rows(alloc)?))
+    Ok(reply_by(verdict_on(alloc, image, stmt)?))
 }
 
 // The reply of a SELECT that found the table, or 701.
-fn shown_or_none(alloc: Global, image: &Image) -> Reply
-    requires { IsPage image.now }
-    ensures reply { (result ≡ Msg (plain 701)) ⊎ ((held : List ℕ) (t : Table) → Holds image.now held t → result ≡ Rows (shown_rows (rows_of t))) }
+fn shown_or_none(alloc: Global, image: &Image, stmt: &Stmt, name: &Name) -> Reply
+    requires page { IsPage image.now }
+    requires select { IsSelect stmt.now name.now }
+    ensures reply { (result ≡ Msg (plain 701)) ⊎ ((held : List ℕ) (t : Table) → Holds image.now held t → result ≡ replied stmt.now (Some t)) }
     ensures room { IsNoShortage result }
     ensures volume { IsNoFailure result }
 {
-    match shown(alloc, image) {
+    match shown(alloc, image, stmt, name) {
         Ok(reply) => reply,
         Err(_) => refused(701),
     }
@@ -169,9 +171,11 @@ fn search<P: PageFile>(
     pages: &mut SnapPages<P>,
     ledger: &mut Ledger,
     s: SnapNo,
+    stmt: &Stmt,
     name: &Name,
     image: &mut Image,
 ) -> Reply
+    requires select { IsSelect stmt.now name.now }
     requires snap { IsOpen pages.old s }
     requires few { data_pages pages.old < 4294967295 }
     requires sound { state_of pages.old s ≢ Suspect }
@@ -180,7 +184,7 @@ fn search<P: PageFile>(
     ensures turns { Turns ledger.old ledger.new pages.old pages.new }
     ensures lost { state_of pages.new s ≡ Suspect → result ≡ Msg (plain 926) }
     ensures reply { IsKept pages.new s → (tables : Tables) → AreTables (data_pages pages.new) (view pages.new s) tables →
-        (result ≡ Msg (plain 701)) ⊎ (result ≡ selected name.now tables) }
+        (result ≡ Msg (plain 701)) ⊎ (result ≡ selected stmt.now name.now tables) }
     ensures room { IsNoShortage result }
     ensures volume { IsNoFailure result }
 {
@@ -189,14 +193,14 @@ fn search<P: PageFile>(
             Glance::Lost => return refused(926),
             Glance::Damaged(at) => return refused_at(60026, u64::from(at)),
             Glance::Blank => return refused(208),
-            Glance::Named => return shown_or_none(alloc, image),
+            Glance::Named => return shown_or_none(alloc, image, stmt, name),
             Glance::Other => {}
         }
     }
     refused(208)
 }
 
-/// The reply of a SELECT of all rows of a table of a snapshot that isn't suspect: 208 where the snapshot has no such
+/// The reply of a SELECT from a table of a snapshot that isn't suspect: 208 where the snapshot has no such
 /// table, 926 where its files failed meanwhile, 701 for want of memory. Where the files don't tell what they hold, it
 /// may also be 60026, with the first wrong byte of a page.
 pub(crate) fn select_in<P: PageFile>(
@@ -204,8 +208,10 @@ pub(crate) fn select_in<P: PageFile>(
     pages: &mut SnapPages<P>,
     ledger: &mut Ledger,
     s: SnapNo,
+    stmt: &Stmt,
     name: &Name,
 ) -> Reply
+    requires select { IsSelect stmt.now name.now }
     requires snap { IsOpen pages.old s }
     requires few { data_pages pages.old < 4294967295 }
     requires sound { state_of pages.old s ≢ Suspect }
@@ -214,12 +220,12 @@ pub(crate) fn select_in<P: PageFile>(
     ensures turns { Turns ledger.old ledger.new pages.old pages.new }
     ensures lost { state_of pages.new s ≡ Suspect → result ≡ Msg (plain 926) }
     ensures reply { IsKept pages.new s → (tables : Tables) → AreTables (data_pages pages.new) (view pages.new s) tables →
-        (result ≡ Msg (plain 701)) ⊎ (result ≡ selected name.now tables) }
+        (result ≡ Msg (plain 701)) ⊎ (result ≡ selected stmt.now name.now tables) }
     ensures room { IsNoShortage result }
     ensures volume { IsNoFailure result }
 {
     match Image::blank(alloc) {
-        Ok(mut image) => search(alloc, pages, ledger, s, name, &mut image),
+        Ok(mut image) => search(alloc, pages, ledger, s, stmt, name, &mut image),
         Err(_) => refused(701),
     }
 }

@@ -17,6 +17,7 @@ use Rattle.plain_model.specs.declared.reply.Message.{Message}
 use Rattle.plain_model.specs.declared.reply.Carried.TheVariants.{Nothing, Number}
 use Rattle.plain_model.specs.declared.reply.Reply.{Reply}
 use Rattle.plain_model.specs.declared.reply.Reply.TheVariants.{Ok, Count, Rows, Msg}
+use Rattle.plain_model.specs.Statements.{shape_over, data_over}
 use Rattle.plain_model.specs.Tables as tables
 use Rattle.plain_model.specs.Tables.{Table, Tables, Change, Put, Add, key_of, rows_of}
 
@@ -61,10 +62,6 @@ abbrev pub insert_shape : InsertStmt → Option Table → Option Message
 insert_shape i None = Some (plain 208)
 insert_shape i (Some t) = if list_all (λ row. length row == length t.cols) i.rows then None else Some (plain 60013)
 
-abbrev pub select_shape : Option Table → Option Message
-select_shape None = Some (plain 208)
-select_shape (Some t) = None
-
 -- a column of this name is there
 abbrev pub has_column : List Column → List ℕ → Bool
 has_column cols name = list_any (λ c. bytes_eq c.name name) cols
@@ -85,7 +82,7 @@ update_shape u (Some t) =
 abbrev pub shape : Stmt → Tables → Option Message
 shape (CreateTable name cols) tables = create_shape (finite.get tables name)
 shape (Insert i) tables = insert_shape i (finite.get tables i.table)
-shape (Select s) tables = select_shape (finite.get tables s.table)
+shape (Select s) tables = shape_over (Select s) (finite.get tables s.table)
 shape (Update u) tables = update_shape u (finite.get tables u.table)
 shape stmt tables = None
 
@@ -117,7 +114,7 @@ change_and_reply (CreateTable name cols) tables = (Add name cols ∷ [], Ok)
 change_and_reply (Insert i) tables =
     let t = table_in tables i.table in
     insert_data i.table (new_rows i) (first_clash t.rows t.cols 1 (new_rows i))
-change_and_reply (Select s) tables = ([], Rows (shown_rows (rows_of (table_in tables s.table))))
+change_and_reply (Select s) tables = data_over (Select s) (table_in tables s.table)
 change_and_reply (Update u) tables =
     let rows = updated_rows u.sets (table_in tables u.table) in
     (map (Put u.table) rows, Count (length rows))

@@ -14,8 +14,6 @@ use Rattle.plain_model.specs.declared.stmt.Stmt.{Stmt}
 use Rattle.plain_model.specs.declared.stmt.Stmt.TheVariants.{UseDb, CreateTable, Insert, Select, Update, CreateSnap, Broken}
 use Rattle.plain_model.specs.declared.stmt.SetItem.{SetItem}
 use Rattle.plain_model.specs.declared.stmt.SnapFile.{SnapFile}
-use Rattle.plain_model.specs.declared.stmt.Items.{Items}
-use Rattle.plain_model.specs.declared.stmt.Items.TheVariants.{Star}
 use Rattle.plain_model.specs.declared.event.LockName.{LockName}
 use Rattle.plain_model.specs.declared.event.LockName.TheVariants.{All, Table}
 use Rattle.plain_model.specs.declared.reply.Message.{Message}
@@ -142,22 +140,18 @@ abbrev pub is_one_row : List (List Expr) → Bool
 is_one_row (row ∷ []) = list_all is_small_number row
 is_one_row _ = false
 
-abbrev pub is_star : Items → Bool
-is_star Star = true
-is_star _ = false
-
 -- one column is set to a number
 abbrev pub is_one_set : List SetItem → Bool
 is_one_set (i ∷ []) = is_small_number i.to
 is_one_set _ = false
 
 -- whether the statement is one of those that are built so far: tables have INT columns, an INSERT has one row of
--- numbers, an UPDATE sets one column of all rows to a number, and a SELECT shows whole rows
+-- numbers, and an UPDATE sets one column of all rows to a number
 abbrev pub is_built : Stmt → Bool
 is_built (UseDb d) = true
 is_built (CreateTable name cols) = list_all is_int cols
 is_built (Insert i) = length i.cols == 0 && is_one_row i.rows
-is_built (Select s) = is_star s.items && (is_none s.filter && length s.order == 0)
+is_built (Select s) = true
 is_built (Update u) = is_none u.filter && is_one_set u.sets
 is_built (CreateSnap snap files of) = true
 is_built (Broken at) = true

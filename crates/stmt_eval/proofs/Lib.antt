@@ -5,4 +5,3 @@ pub mod TotalLemmas
 pub mod KeysLemmas
 pub mod InsertingLemmas
 pub mod TableLemmas
-pub mod CallerLemmas

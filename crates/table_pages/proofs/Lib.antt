@@ -2,6 +2,7 @@ pub mod CollectLemmas
 mod OrderLemmas
 mod NameLemmas
 mod NumberLemmas
+mod KeyedLemmas
 mod StoredLemmas
 mod KeyLemmas
 mod WriteLemmas

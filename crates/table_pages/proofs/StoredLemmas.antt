@@ -2,6 +2,10 @@
 use Rattle.std.proofs.Common.{◌≡◌, ℕ, List, ap, sym, ◌∙◌, map, length, subst, [], ◌∷◌, ◌++◌, append_assoc}
 use Rattle.std.proofs.lemmas.List.{length-map}
 use Rattle.std.specs.FinMap as finite
+use Rattle.std.specs.FinMap.{get-empty}
+use Rattle.std.specs.Prelude.{Some, None}
+use Rattle.table_pages.proofs.KeyedLemmas.{table_of_itself, keyed_put}
+use Rattle.table_pages.proofs.OrderLemmas.{keys_exact}
 use Rattle.std.specs.BTreeMap.{insert_entry}
 use Rattle.std.specs.List.Sorted.{IsStrictlySortedBy}
 use Rattle.page_base.specs.declared.column.Column.{Column}
@@ -9,7 +13,7 @@ use Rattle.page_base.specs.declared.value.Value.{Value}
 use Rattle.page_base.specs.Order.{key_cmp}
 use Rattle.page_base.proofs.Ordered.{key_cmp_total}
 use Rattle.page_base.proofs.MapLemmas.{entries-from_entries, from_entries-insert_entry}
-use Rattle.plain_model.specs.Tables.{Table, with_row, key_of, rows_of}
+use Rattle.plain_model.specs.Tables.{Table, IsTable, IsKeyed, with_row, key_of, rows_of}
 use Rattle.plain_model.specs.Meaning.{shown, shown_rows}
 
 -- rows beside their keys
@@ -41,3 +45,19 @@ stored-len cols es t n is sorted e = e ∙ sym (length-map es (λ e. e.1)) ∙ a
 -- one more row is shown
 pub shown_more : (all list list' : List (List Value)) (rest : List (List Value)) (row r : List Value) → all ≡ list ++ shown_rows (row ∷ rest) → r ≡ map shown row → list' ≡ list ++ r ∷ [] → all ≡ list' ++ shown_rows rest
 shown_more all list list' rest row r h is more = h ∙ sym (append_assoc list (map shown row ∷ []) (shown_rows rest)) ∙ ap (λ (l : List (List Value)). l ++ shown_rows rest) (ap (λ (x : List Value). list ++ x ∷ []) (sym is) ∙ sym more)
+
+-- a table without rows has each by its own key
+pub stored-none : (cols : List Column) (es : Entries) → es ≡ [] → IsKeyed (stored cols es)
+stored-none cols es is = subst (λ (es : Entries). IsKeyed (stored cols es)) (sym is) (record { at = λ key row f. let no : None ≡ Some row = sym (get-empty key_cmp key) ∙ f in cc })
+
+-- what was put stands by its own key
+pub stored-keyed : (cols : List Column) (fs : Entries) (t : Table) (row : List Value) → stored cols fs ≡ with_row row t → IsKeyed t → IsKeyed (stored cols fs)
+stored-keyed cols fs t row is h = subst IsKeyed (sym is) (keyed_put keys_exact row t h)
+
+-- the columns and the rows in order are the table
+pub stored-table : (cols : List Column) (es : Entries) (t : Table) (rows : List (List Value)) → stored cols es ≡ t → IsKeyed (stored cols es) → IsStrictlySortedBy key_cmp (map (λ e. e.0) es) → rows ≡ map (λ e. e.1) es → IsTable cols rows t
+stored-table cols es t rows is keyed sorted gives =
+    let whole = table_of_itself t (subst IsKeyed is keyed) in
+    record { columns = sym (ap (λ (t : Table). t.cols) is); values = sym (gives ∙ stored-rows cols es t is sorted);
+        keys = subst (λ (cs : List Column). finite.keys t.rows ≡ map (key_of cs) rows) (sym (ap (λ (t : Table). t.cols) is))
+        (subst (λ (rs : List (List Value)). finite.keys t.rows ≡ map (key_of t.cols) rs) (sym (gives ∙ stored-rows cols es t is sorted)) whole.keys) }

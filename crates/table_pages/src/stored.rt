@@ -2,7 +2,7 @@
 
 ghost use Rattle.std.specs.Prelude.{◌≡◌, ◌↔◌, [], length, map, IsTrue, IfOk, OnOk, OnErr};
 ghost use Rattle.std.specs.FinMap as finite;
-ghost use Rattle.plain_model.specs.Tables.{with_row, key_of, rows_of};
+ghost use Rattle.plain_model.specs.Tables.{IsTable, with_row, key_of, rows_of};
 ghost use Rattle.plain_model.specs.Meaning.{shown, shown_rows};
 
 use page_base::{Column, Columns, NoMemory, Row, RowList, Value};
@@ -19,7 +19,7 @@ pub struct StoredTable {
 
 impl Model for StoredTable {
     ghost use Rattle.std.specs.FinMap as finite;
-    ghost use Rattle.plain_model.specs.Tables.{Table};
+    ghost use Rattle.plain_model.specs.Tables.{Table, IsKeyed};
     ghost use Rattle.page_base.specs.contracts.value.Value as v;
     ghost use Rattle.std.specs.Coded.{codes};
 
@@ -28,6 +28,8 @@ impl Model for StoredTable {
     ghost coded = { Prim.hlevel (codes, finite.code, v.the_row.coded) };
 
     ghost view = { λ t. record { cols = t.cols; rows = finite.from_entries t.rows.entries } };
+
+    ghost invariant = { λ t. IsKeyed (record { cols = t.cols; rows = finite.from_entries t.rows.entries }) };
 }
 
 impl StoredTable {
@@ -77,6 +79,19 @@ impl StoredTable {
     {
         self.rows.insert(key, row)?;
         Ok(())
+    }
+
+    /// Its columns, and its rows in ascending order of keys.
+    pub fn into_parts(self, alloc: Global) -> Result<(Columns, RowList), NoMemory>
+        ensures { IfOk result (λ parts. IsTable parts.0 parts.1 self) }
+    {
+        let StoredTable { cols, rows } = self;
+        let _count = rows.len();
+        let mut list = RowList::new(alloc);
+        for row in rows.into_values() {
+            list.push(row)?;
+        }
+        Ok((cols, list))
     }
 
     /// Its rows as a reply shows them, in ascending order of keys.

@@ -29,7 +29,7 @@ returns-in-Update g c = λ opening seen setting named.
 pub returns-in-Select : goal.returns-in-Select
 returns-in-Select g c = λ opening seen setting named.
     let means = subst (λ (s : List ℕ). Means s (catalog c.args.pages.now) c.args.current.now c.find_database-db.result) (sym named) c.find_database-db.ensures.means in
-    rw c.in-Select.is (c.select.ensures opening c.args.current.now seen setting means)
+    c.select.ensures opening c.args.current.now seen setting means
 
 pub returns-in-Broken : goal.returns-in-Broken
 returns-in-Broken g c = λ opening seen setting named.

@@ -43,7 +43,7 @@ returns-in-Blank-clause-reply g c = λ kept tables are.
     let shows = subst (λ (r : Glance). Shows c.look_for.new.image c.args.name.now r) c.in-Blank.is c.look_for.ensures.shows in
     let read = c.look_for.ensures.read (λ e. let x : Blank ≡ Lost = sym c.in-Blank.is ∙ e in cc) in
     let n = c.data_pages-i-end.ensures ∙ sym (pages_same c.args.pages.now w (pushes_trans c.args.pages.now v w c.loop-i.invariant.pushes c.look_for.ensures.pushes)) in
-    inr (c.refused-in-Blank.ensures ∙ blank_ends v w c.args.s c.loop-i.i c.args.name.now c.look_for.new.image c.look_for.ensures.pushes c.loop-i.invariant.passed kept (read kept) tables c.data_pages-i-end.result n are c.loop-i-test.true shows)
+    inr (c.refused-in-Blank.ensures ∙ blank_ends v w c.args.s c.loop-i.i c.args.name.now c.look_for.new.image c.look_for.ensures.pushes c.loop-i.invariant.passed kept (read kept) tables c.data_pages-i-end.result n are c.loop-i-test.true c.args.stmt.now c.requires.select shows)
 
 pub returns-in-Named-clause-pushes : goal.returns-in-Named-clause-pushes
 returns-in-Named-clause-pushes g c = pushes_trans c.args.pages.now c.loop-i.pages c.look_for.new.pages c.loop-i.invariant.pushes c.look_for.ensures.pushes
@@ -58,7 +58,7 @@ returns-in-Named-clause-reply g c = λ kept tables are.
     let shows = subst (λ (r : Glance). Shows c.look_for.new.image c.args.name.now r) c.in-Named.is c.look_for.ensures.shows in
     let read = c.look_for.ensures.read (λ e. let x : Named ≡ Lost = sym c.in-Named.is ∙ e in cc) in
     let n = c.data_pages-i-end.ensures ∙ sym (pages_same c.args.pages.now w (pushes_trans c.args.pages.now v w c.loop-i.invariant.pushes c.look_for.ensures.pushes)) in
-    elim c.shown_or_none.ensures.reply [ inl e ↦ inl e | inr rows ↦ inr (named_ends v w c.args.s c.loop-i.i c.args.name.now c.look_for.new.image c.look_for.ensures.pushes c.loop-i.invariant.passed kept (read kept) tables c.data_pages-i-end.result n are c.loop-i-test.true c.shown_or_none.result shows rows) ]
+    elim c.shown_or_none.ensures.reply [ inl e ↦ inl e | inr rows ↦ inr (named_ends v w c.args.s c.loop-i.i c.args.name.now c.look_for.new.image c.look_for.ensures.pushes c.loop-i.invariant.passed kept (read kept) tables c.data_pages-i-end.result n are c.loop-i-test.true c.args.stmt.now c.shown_or_none.result shows rows) ]
 
 pub loop-i-preserved : goal.loop-i-preserved
 loop-i-preserved g c =
@@ -79,4 +79,4 @@ returns-clause-reply g c = λ kept tables are.
     let same = pages_same c.args.pages.now c.loop-i.pages c.loop-i.invariant.pushes in
     let n = c.data_pages-i-end.ensures in
     let f = c.loop-i-test.false in
-    inr (c.refused-2.ensures ∙ all_end c.loop-i.pages c.args.s c.loop-i.i c.args.name.now tables are (omega (arith, same, n, f)) (c.loop-i.invariant.passed kept))
+    inr (c.refused-2.ensures ∙ all_end c.args.stmt.now c.loop-i.pages c.args.s c.loop-i.i c.args.name.now tables c.requires.select are (omega (arith, same, n, f)) (c.loop-i.invariant.passed kept))

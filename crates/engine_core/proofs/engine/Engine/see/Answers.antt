@@ -1,4 +1,4 @@
-use Rattle.std.proofs.Common.{◌≡◌, ◌+◌, sym, refl, subst, arith, append-nil}
+use Rattle.std.proofs.Common.{◌≡◌, ◌⊎◌, ◌+◌, sym, refl, subst, arith, append-nil}
 use Rattle.engine_core.specs.Opened.{names_of, new_source}
 use Rattle.engine_core.specs.Disks.{disk_of}
 use Rattle.engine_core.specs.Deciding.{IsSeeing}
@@ -9,11 +9,36 @@ use Rattle.engine_core.specs.Safe.{Run, Safe, seat_at}
 use Rattle.engine_core.specs.Steps.{next_stmt, HasNext}
 use Rattle.engine_core.proofs.AnswerLemmas.{does_one}
 use Rattle.engine_core.proofs.PushLemmas.{leaves_of}
-use Rattle.engine_core.proofs.CourseLemmas.{enough, own_seat, safe_see}
+use Rattle.engine_core.proofs.CourseLemmas.{enough, own_seat, own_stmt, safe_see}
 use Rattle.engine_core.proofs.SayingLemmas.{roomy, says_seen}
 use Rattle.engine_core.specs.Causes.{HasPlace}
 use Rattle.plain_model.specs.declared.stmt.Stmt.{Stmt}
+use Rattle.plain_model.specs.declared.reply.Reply.TheVariants.{Msg}
+use Rattle.plain_model.specs.Meaning.{plain}
+use Rattle.plain_model.specs.Tables.{Tables}
+use Rattle.snap_pages.specs.Views.{view, IsKept}
+use Rattle.table_pages.specs.Carried.{data_pages}
+use Rattle.engine_core.specs.Safe.{AreTables}
+use Rattle.engine_core.specs.Seeing.{IsSelect, selected}
 use Rattle.engine_core.proofs.engine.Engine.see.Goals as goal
+
+pub select_in-reply-requires-clause-select : goal.select_in-reply-requires-clause-select
+select_in-reply-requires-clause-select g c =
+    let e : Run = record {
+      opening = new_source c.self.inside.source c.self.inside.file (names_of (g.V.Volume.folder c.self.inside.opened.value));
+      scripts = c.self.inside.scripts;
+      disk = disk_of g.V.Volume.tells g.V.Volume.folder g.V.Volume.out g.V.Volume.failures g.V.Volume.file_failures c.self.inside.volume;
+      shown = c.self.inside.pages;
+      seats = c.self.inside.seats.items;
+      kept = c.self.inside.ledger;
+    } in
+    let is : c.args.self.now ≡ e = sym c.self.view_is in
+    let safe : Safe e = c.self.invariant in
+    let next = subst (λ (r : Run). HasNext r c.args.place) is c.requires.next in
+    let seeing = subst (λ (r : Run). IsSeeing r.opening (seat_at r c.args.place).current r.shown (next_stmt r c.args.place) c.args.s c.args.name.now) is c.requires.course in
+    let seat_is = own_seat e safe c.args.place next c.index-seat.result.now c.index-seat.ensures in
+    let stmt_is = own_stmt e safe c.args.place next c.index-seat.result.now c.stmt_at-stmt.result.now seat_is c.stmt_at-stmt.ensures.is in
+    subst (λ (x : Stmt). IsSelect x c.args.name.now) stmt_is (record { select = seeing.select; is = seeing.is; table = seeing.table })
 
 pub enter_reply-requires : goal.enter_reply-requires
 enter_reply-requires g c =
@@ -48,12 +73,13 @@ invariant_of-self g c =
     let next = subst (λ (r : Run). HasNext r c.args.place) is c.requires.next in
     let seeing = subst (λ (r : Run). IsSeeing r.opening (seat_at r c.args.place).current r.shown (next_stmt r c.args.place) c.args.s c.args.name.now) is c.requires.course in
     let seat_is = own_seat e safe c.args.place next c.index-seat.result.now c.index-seat.ensures in
+    let stmt_is = own_stmt e safe c.args.place next c.index-seat.result.now c.stmt_at-stmt.result.now seat_is c.stmt_at-stmt.ensures.is in
     let s = c.select_in-reply in
     let does = does_one (c.args.place + 1) (c.index-seat.result.now.said + 1) c.len-began.result (AtOnce s.result) s.result c.self.inside.ledger c.self.inside.ledger s.new.ledger c.enter_reply.new.ledger c.self.inside.pages s.new.pages
     (sym (append-nil c.self.inside.ledger.events)) (omega arith) s.ensures.turns (leaves_of c.self.inside.pages s.new.pages s.ensures.pushes) c.enter_reply.ensures refl c.len-began.ensures (enough e safe c.args.place next) (omega arith) in
     safe_see e safe c.args.place next c.args.s c.args.name.now seeing s.new.pages c.enter_reply.new.ledger s.ensures.pushes c.cat-snaps.ensures.few s.result
     (subst (λ (t : Seat). Does (c.args.place + 1) (t.said + 1) (AtOnce s.result) c.self.inside.ledger c.enter_reply.new.ledger c.self.inside.pages s.new.pages) seat_is does)
-    s.ensures.lost s.ensures.reply c.index-seat.result.now seat_is
+    s.ensures.lost (subst (λ (x : Stmt). IsKept s.new.pages c.args.s → (tables : Tables) → AreTables (data_pages s.new.pages) (view s.new.pages c.args.s) tables → (s.result ≡ Msg (plain 701)) ⊎ (s.result ≡ selected x c.args.name.now tables)) (sym stmt_is) s.ensures.reply) c.index-seat.result.now seat_is
 
 pub returns : goal.returns
 returns g c =

@@ -1,4 +1,4 @@
--- What a caller needs to say of its table: that each row stands by its own key, before and after a change.
+-- Each row of a table stands by its own key, before and after a change.
 use Rattle.std.proofs.Common.{◌≡◌, refl, ap, sym, ◌∙◌, Bool, true, false, ◌&&◌, cond, List, [], ◌∷◌, map}
 use Rattle.std.specs.Prelude.{T, Option, Some, None}
 use Rattle.std.specs.declared.cmp.Ordering.{Ordering}

@@ -1,0 +1,8 @@
+:session 1
+SELECT v FROM
+GO
+DELETE t
+GO
+SELECT v FROM t WHERE (v
+GO
+INSERT t (id) VALUES (1)
