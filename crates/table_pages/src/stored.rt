@@ -5,7 +5,7 @@ ghost use Rattle.std.specs.FinMap as finite;
 ghost use Rattle.plain_model.specs.Tables.{with_row, key_of, rows_of};
 ghost use Rattle.plain_model.specs.Meaning.{shown, shown_rows};
 
-use page_base::{Column, Columns, NoMemory, Row, RowList, Value};
+use page_base::{Columns, NoMemory, Row, RowList, Value};
 use std::alloc::Global;
 use std::collections::BTreeMap;
 use std::marker::Model;
@@ -42,10 +42,10 @@ impl StoredTable {
     }
 
     /// Its columns.
-    pub fn cols(&self) -> &[Column]
+    pub fn cols(&self) -> &Columns
         ensures { result.now ≡ self.now.cols }
     {
-        self.cols.as_slice()
+        &self.cols
     }
 
     /// How many rows there are.
