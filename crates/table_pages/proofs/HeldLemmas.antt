@@ -1,5 +1,5 @@
 -- The table that a page holds, as the calls that read a page find it.
-use Rattle.std.proofs.Common.{◌≡◌, ◌≢◌, ℕ, ◌+◌, ◌-◌, ◌<◌, ◌≤◌, Bool, true, false, inl, inr, IsTrue, List, [], length, refl, ap, sym, ◌∙◌, subst, arith}
+use Rattle.std.proofs.Common.{◌≡◌, ◌≢◌, ℕ, ◌+◌, ◌-◌, ◌<◌, ◌≤◌, Bool, true, false, inl, inr, IsTrue, List, [], ◌∷◌, length, map, refl, ap, sym, ◌∙◌, subst, arith}
 use Rattle.std.specs.Prelude.{◌↔◌, Some, Ok}
 use Rattle.std.specs.Option.{is_some}
 use Rattle.std.specs.FinMap as finite
@@ -13,9 +13,14 @@ use Rattle.plain_model.specs.Tables.{Table, key_of, with_row}
 use Rattle.table_pages.specs.Gathered.{collect}
 use Rattle.row_fmt.specs.Rows.{FitsColumns}
 use Rattle.page_base.specs.Order.{key_cmp}
-use Rattle.std.proofs.lemmas.Option.{same_Some, none-some}
+use Rattle.std.proofs.lemmas.List.{nil_from_length}
+use Rattle.std.specs.List.{AllByRecursion}
+use Rattle.std.specs.Ordering.{match_ordering}
+use Rattle.std.specs.declared.cmp.Ordering.{Ordering}
+use Rattle.std.specs.declared.cmp.Ordering.TheVariants.{Less, Equal, Greater}
+use Rattle.page_base.proofs.Ordered.{key_cmp_total}
+use Rattle.table_pages.proofs.StoredLemmas.{Entries}
 use Rattle.table_pages.specs.Rows.{row_of, HoldsFitting}
-use Rattle.table_pages.proofs.IndexLemmas.{inserted_at}
 use Rattle.table_pages.specs.Headers.{name_at, columns_at}
 use Rattle.table_pages.specs.Reading.{Stops}
 use Rattle.table_pages.specs.Layout.{row_at}
@@ -82,11 +87,23 @@ read_all image held i t table h page pos le so_far =
 
 -- a table without rows
 pub fitting_none : (cols : List Column) → HoldsFitting (record { cols = cols; rows = finite.empty })
-fitting_none cols key row e = absurd (none-some row (sym (finite.get-empty key_cmp key) ∙ e))
+fitting_none cols = subst (λ (es : Entries). AllByRecursion (FitsColumns cols) (map (λ (e : List Value × List Value). e.1) es)) (sym none) tt
+  where
+    none : finite.entries (finite.empty {X = List Value} {R = key_cmp}) ≡ []
+    none = nil_from_length _ (sym (finite.len-entries finite.empty) ∙ finite.len-empty key_cmp (List Value))
+
+-- a value more among others
+put_each : (P : List Value → Type 0) (k v : List Value) (es : Entries) → P v → AllByRecursion P (map (λ (e : List Value × List Value). e.1) es) → AllByRecursion P (map (λ (e : List Value × List Value). e.1) (finite.put key_cmp k v es))
+put_each P k v [] here each = (here, tt)
+put_each P k v (e ∷ es) here each = by (key_cmp k e.0) (put_each P k v es here each.1)
+  where
+    by : (o : Ordering) → AllByRecursion P (map (λ (e : List Value × List Value). e.1) (finite.put key_cmp k v es)) → AllByRecursion P (map (λ (e : List Value × List Value). e.1) (match_ordering o ((k, v) ∷ e ∷ es) ((e.0, v) ∷ es) (e ∷ finite.put key_cmp k v es)))
+    by Less more = (here, each)
+    by Equal more = (here, each.1)
+    by Greater more = (each.0, more)
 
 -- one row more
 pub fitting_more : (t : Table) (row : List Value) → FitsColumns t.cols row → HoldsFitting t → HoldsFitting (with_row row t)
-fitting_more t row fits h key other e = elim (inserted_at t.rows (key_of t.cols row) key row) [
-  | inl here ↦ subst (FitsColumns t.cols) (same_Some row other (sym here.1 ∙ e)) fits
-  | inr there ↦ h key other (sym there.1 ∙ e)
-]
+fitting_more t row fits h =
+    subst (λ (es : Entries). AllByRecursion (FitsColumns t.cols) (map (λ (e : List Value × List Value). e.1) es)) (sym (finite.entries-insert key_cmp_total t.rows (key_of t.cols row) row))
+    (put_each (FitsColumns t.cols) (key_of t.cols row) row (finite.entries t.rows) fits h)

@@ -41,3 +41,7 @@ stored-len cols es t n is sorted e = e ∙ sym (length-map es (λ e. e.1)) ∙ a
 -- one more row is shown
 pub shown_more : (all list list' : List (List Value)) (rest : List (List Value)) (row r : List Value) → all ≡ list ++ shown_rows (row ∷ rest) → r ≡ map shown row → list' ≡ list ++ r ∷ [] → all ≡ list' ++ shown_rows rest
 shown_more all list list' rest row r h is more = h ∙ sym (append_assoc list (map shown row ∷ []) (shown_rows rest)) ∙ ap (λ (l : List (List Value)). l ++ shown_rows rest) (ap (λ (x : List Value). list ++ x ∷ []) (sym is) ∙ sym more)
+
+-- one more row is copied
+pub copied_more : (all list list' rest : List (List Value)) (row r : List Value) → all ≡ list ++ row ∷ rest → r ≡ row → list' ≡ list ++ r ∷ [] → all ≡ list' ++ rest
+copied_more all list list' rest row r h is more = h ∙ sym (append_assoc list (row ∷ []) rest) ∙ ap (λ (l : List (List Value)). l ++ rest) (ap (λ (x : List Value). list ++ x ∷ []) (sym is) ∙ sym more)

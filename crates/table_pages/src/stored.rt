@@ -79,6 +79,17 @@ impl StoredTable {
         Ok(())
     }
 
+    /// Its rows, in ascending order of keys.
+    pub fn rows(&self, alloc: Global) -> Result<RowList, NoMemory>
+        ensures { IfOk result (λ rows. rows ≡ rows_of self.now) }
+    {
+        let mut list = RowList::new(alloc);
+        for row in self.rows.values() {
+            list.push(copy_row(alloc, row)?)?;
+        }
+        Ok(list)
+    }
+
     /// Its rows as a reply shows them, in ascending order of keys.
     pub fn shown_rows(&self, alloc: Global) -> Result<RowList, NoMemory>
         ensures { IfOk result (λ rows. rows ≡ shown_rows (rows_of self.now)) }
@@ -89,6 +100,16 @@ impl StoredTable {
         }
         Ok(list)
     }
+}
+
+fn copy_row(alloc: Global, row: &Row) -> Result<Row, NoMemory>
+    ensures { IfOk result (λ r. r ≡ row.now) }
+{
+    let mut values = Row::new(alloc);
+    for value in row.as_slice() {
+        values.push(value.copy(alloc)?)?;
+    }
+    Ok(values)
 }
 
 // The value as a reply shows it: every number is a `Big`.
