@@ -7,6 +7,7 @@ mod Placed
 mod AtOnce
 mod EditLemmas
 mod SeeLemmas
+mod SetsLemmas
 mod Decisions
 mod Choices
 mod AnswerLemmas

@@ -21,6 +21,7 @@ mod seat;
 mod seeing;
 #[cfg(test)]
 mod tests;
+mod updated;
 
 pub use closing::CloseEnd;
 pub use engine::{Closed, Engine, OpenRefused};

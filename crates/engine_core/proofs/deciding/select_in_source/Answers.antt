@@ -19,7 +19,7 @@ pub returns : goal.returns
 returns g c = λ opening seen setting.
     let f = c.in-Some.ensures.found seen.source setting.none.says in
     let at = c.image.ensures ∙ ap (img c.args.pages.now) c.place.ensures in
-    let table = c.in_ok-table.ensures c.args.stmt.now.table f.0 (subst (λ (x : List ℕ). Holds x c.args.stmt.now.table f.0) (sym at) f.1) in
+    let table = c.in_ok-table.ensures.table c.args.stmt.now.table f.0 (subst (λ (x : List ℕ). Holds x c.args.stmt.now.table f.0) (sym at) f.1) in
     let rows = c.in_ok-rows.ensures ∙ ap (λ (t : Table). shown_rows (rows_of t)) table in
     is_same opening opening.source c.args.pages.now seen (Select c.args.stmt.now) _ _ (c.only-2.ensures ∙ ap (λ rs. record { answer = UnderTable c.args.stmt.now.table S (Rows rs); edits = [] }) rows)
     (select_rows opening c.args.pages.now seen setting c.args.stmt.now c.requires.built f.0 f.2)
