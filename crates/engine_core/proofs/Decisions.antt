@@ -1,6 +1,6 @@
 -- Decisions of each kind.
 use Rattle.std.proofs.Common.{◌≡◌, ◌<◌, ℕ, Bool, true, false, ◌&&◌, cond, List, [], ◌∷◌, length, map, refl, ap, sym, ◌∙◌, subst, arith}
-use Rattle.std.specs.Prelude.{Option, Some, None, ◌==◌, unwrap_or, is_none}
+use Rattle.std.specs.Prelude.{Option, Some, None, MatchOption, ◌==◌, unwrap_or, is_none}
 use Rattle.std.specs.List.{list_all, list_any}
 use Rattle.std.specs.Ordering.{nat_cmp, is_eq}
 use Rattle.std.specs.Cmp.Lexicographic.{slice_cmp, nat_list_cmp_total}
@@ -36,7 +36,11 @@ use Rattle.plain_model.specs.declared.reply.Reply.{Reply}
 use Rattle.plain_model.specs.declared.reply.Reply.TheVariants.{Ok, Count, Rows, Msg}
 use Rattle.plain_model.specs.Tables.{Table, Tables, Change, Add, Put, applied, apply, changed, with_row, key_of, rows_of}
 use Rattle.plain_model.specs.Journal.{Opening}
-use Rattle.snap_pages.specs.Shown.{Shown}
+use Rattle.snap_pages.specs.Shown.{Shown, img}
+use Rattle.page_fmt.specs.Content.{content}
+use Rattle.table_pages.specs.Layout.{place}
+use Rattle.table_pages.specs.Drafts as drafts
+use Rattle.table_pages.specs.Plans.{Plans}
 use Rattle.table_pages.specs.Carried.{Carries, LacksPage}
 use Rattle.engine_core.specs.declared.answer.Answer.{Answer}
 use Rattle.engine_core.specs.declared.decision.Decision.{Decision}
@@ -44,7 +48,7 @@ use Rattle.engine_core.specs.Pushing.{snaps_of}
 use Rattle.engine_core.specs.Ready.{Seen, Comes, reply_of}
 use Rattle.engine_core.specs.Stepping.{tables_after, IsPlain}
 use Rattle.engine_core.specs.Safe.{AreInts}
-use Rattle.engine_core.specs.Causes.{LacksSpace, HasSpace, IsRoomReply, IsNoFailure}
+use Rattle.engine_core.specs.Causes.{LacksSpace, HasSpace, LacksGrowth, HasGrowth, IsRoomReply, IsNoFailure}
 use Rattle.engine_core.specs.Deciding.{Setting, IsDecision, IsStill}
 
 and_true : (b : Bool) → (b && true) ≡ b
@@ -168,15 +172,15 @@ module _ (opening : Opening) (v : Shown) (seen : Seen) (setting : Setting openin
       insert_full e lacks = decides_only opening opening.source opening.source v seen (Insert i) (UnderTable i.table X (Msg (plain 1105))) setting refl tt (λ _. lacks) (no_failure 1105 Nothing refl)
           (room_comes opening opening.source seen (snaps_of v) refl (Insert i) i.table X (of_insert i b) (Count 1) shaped refl refl (ap (λ (r : List Change × Reply). r.1) (meant false e)))
 
-      pub insert_made : (edit : Edit) → finite.contains_key t.rows (key_of t.cols row) ≡ false → HasSpace v i → Carries v (edit ∷ []) (applied (Put i.table row) seen.source) → IsDecision opening opening.source v seen (Insert i) (record { answer = UnderTable i.table X (Count 1); edits = edit ∷ [] })
-      insert_made edit e space plan =
+      pub insert_made : (edits : List Edit) → finite.contains_key t.rows (key_of t.cols row) ≡ false → HasSpace v i → Carries v edits (applied (Put i.table row) seen.source) → IsDecision opening opening.source v seen (Insert i) (record { answer = UnderTable i.table X (Count 1); edits = edits })
+      insert_made edits e space plan =
           let changes : tables_after (Insert i) (Count 1) seen.source ≡ applied (Put i.table row) seen.source = ap (λ (r : List Change × Reply). apply r.0 seen.source) (meant false e) in
           let mine = setting.ints i.table t there in
           record {
             comes = reply_comes opening opening.source seen (snaps_of v) refl (Insert i) i.table X (of_insert i b) (Count 1) shaped (ap (λ (r : List Change × Reply). r.1) (meant false e));
             simple = tt;
             still = tt;
-            carries = subst (λ (u : Tables). Carries v (edit ∷ []) u) (sym changes) plan;
+            carries = subst (λ (u : Tables). Carries v edits u) (sym changes) plan;
             ints = subst AreInts (sym (changes ∙ ap (λ o. changed seen.source i.table o (with_row row)) there)) (ints_insert seen.source i.table (with_row row t) setting.ints mine.0 mine.1);
             room = space;
             fine = tt;
@@ -240,9 +244,9 @@ module _ (opening : Opening) (v : Shown) (seen : Seen) (setting : Setting openin
       update_key e = refuses_only opening opening.source opening.source v seen (Update u) (UnderAll S (Msg (plain 60012))) 60012 Nothing refl refl refl setting tt
           (shape_comes opening opening.source seen (snaps_of v) refl (Update u) u.table X (of_update u b) (plain 60012) (ap (update_shape u) there ∙ (rw (all, e) refl)))
 
-      pub update_made : (edits : List Edit) (count : ℕ) → list_any (λ i. is_key_column t.cols i.col) u.sets ≡ false → count ≡ length (rows_of t) → Carries v edits (apply (map (Put u.table) (updated_rows u.sets t)) seen.source) →
+      pub update_made : (edits : List Edit) (count : ℕ) → list_any (λ i. is_key_column t.cols i.col) u.sets ≡ false → count ≡ length (rows_of t) → HasGrowth v u → Carries v edits (apply (map (Put u.table) (updated_rows u.sets t)) seen.source) →
           IsDecision opening opening.source v seen (Update u) (record { answer = UnderTable u.table X (Count count); edits = edits })
-      update_made edits count keyless counted plan =
+      update_made edits count keyless counted space plan =
           let shaped : shape (Update u) seen.source ≡ None = ap (update_shape u) there ∙ (rw (all, keyless) refl) in
           let meant : change_and_reply (Update u) seen.source ≡ (map (Put u.table) (updated_rows u.sets t), Count (length (updated_rows u.sets t))) =
           ap (λ o. let x = updated_rows u.sets (unwrap_or o (record { cols = []; rows = finite.empty })) in (map (Put u.table) x, Count (length x))) there in
@@ -254,9 +258,17 @@ module _ (opening : Opening) (v : Shown) (seen : Seen) (setting : Setting openin
             still = tt;
             carries = subst (λ (x : Tables). Carries v edits x) (sym changes) plan;
             ints = subst AreInts (sym changes) (ints_puts u.table (updated_rows u.sets t) seen.source setting.ints);
-            room = tt;
+            room = space;
             fine = tt;
           }
+
+      pub update_full : list_any (λ i. is_key_column t.cols i.col) u.sets ≡ false → LacksGrowth v u → IsDecision opening opening.source v seen (Update u) (record { answer = UnderTable u.table X (Msg (plain 1105)); edits = [] })
+      update_full keyless lacks =
+          let shaped : shape (Update u) seen.source ≡ None = ap (update_shape u) there ∙ (rw (all, keyless) refl) in
+          let meant : change_and_reply (Update u) seen.source ≡ (map (Put u.table) (updated_rows u.sets t), Count (length (updated_rows u.sets t))) =
+          ap (λ o. let x = updated_rows u.sets (unwrap_or o (record { cols = []; rows = finite.empty })) in (map (Put u.table) x, Count (length x))) there in
+          decides_only opening opening.source opening.source v seen (Update u) (UnderTable u.table X (Msg (plain 1105))) setting refl tt (λ _. lacks) (no_failure 1105 Nothing refl)
+          (room_comes opening opening.source seen (snaps_of v) refl (Update u) u.table X (of_update u b) (Count (length (updated_rows u.sets t))) shaped refl refl (ap (λ (r : List Change × Reply). r.1) meant))
 
 -- one set of a number
 pub small_sets : (u : UpdateStmt) → is_built (Update u) ≡ true → list_all (λ s. is_small_number s.to) u.sets ≡ true
@@ -266,3 +278,14 @@ small_sets u b = one u.sets (both (is_none u.filter) (is_one_set u.sets) b).1
     one [] e = refl
     one (s ∷ []) e = rw e refl
     one (s ∷ x ∷ xs) e = absurd (let w : false ≡ true = e in cc)
+
+-- WHAT A PLAN SAYS
+
+-- what a plan says of keys that are cut and rows that are put
+abbrev pub Planned : Shown → ℕ → List ℕ → Table → List (List Value) → List (List Value) → Option (List Edit) → Type 0
+Planned v i name t cut put plan =
+    MatchOption plan (drafts.LacksRoom t.cols cut put (content (img v (place i)))) (λ edits. Plans v i name t cut put edits × (drafts.LacksRoom t.cols cut put (content (img v (place i))) → ⊥))
+
+-- the same of the rows by another name
+pub retold : (v : Shown) (i : ℕ) (name : List ℕ) (t : Table) (cut cut' put put' : List (List Value)) (plan : Option (List Edit)) → cut ≡ cut' → put ≡ put' → Planned v i name t cut put plan → Planned v i name t cut' put' plan
+retold v i name t cut cut' put put' plan c p h = subst (λ (rs : List (List Value)). Planned v i name t cut' rs plan) p (subst (λ (ks : List (List Value)). Planned v i name t ks put plan) c h)

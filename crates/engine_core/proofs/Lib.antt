@@ -8,6 +8,7 @@ mod AtOnce
 mod EditLemmas
 mod SelectLemmas
 mod SeeLemmas
+mod SetsLemmas
 mod Decisions
 mod Choices
 mod AnswerLemmas

@@ -1,3 +1,4 @@
+pub mod Ints
 pub mod Entering
 pub mod Pushing
 pub mod Ready

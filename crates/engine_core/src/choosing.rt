@@ -103,7 +103,7 @@ fn insert_one<P: PageFile>(
         IsDecision opening opening.source pages.now seen (Insert stmt.now) d) }
 {
     let row = new_row(alloc, stmt)?;
-    insert_in_source(alloc, pages, stmt.table, &row)
+    insert_in_source(alloc, pages, stmt.table, row)
 }
 
 // INSERT

@@ -12,7 +12,7 @@ ghost use Rattle.plain_model.specs.declared.stmt.InsertStmt.{InsertStmt};
 ghost use Rattle.plain_model.specs.Tables.{Table};
 ghost use Rattle.plain_model.specs.Meaning.{new_rows, has_column, is_key_column};
 ghost use Rattle.plain_model.specs.Next.{is_int, is_built};
-ghost use Rattle.table_pages.specs.Rows.{is_int_value};
+ghost use Rattle.engine_core.specs.Ints.{is_int_value};
 ghost use Rattle.snap_pages.specs.Shown.{img, catalog};
 ghost use Rattle.snap_pages.specs.Slots.{slots_of};
 ghost use Rattle.table_pages.specs.Layout.{IsPacked, place};
@@ -26,16 +26,16 @@ ghost use Rattle.engine_core.specs.declared.database.Database.TheVariants.{Sourc
 use crate::answer::Answer;
 use crate::decision::{Decision, only};
 use crate::refusal::{refused, refused_at};
+use crate::updated::updated_rows;
 use crate::verdicts::verdict_on;
-use page_base::{Column, Columns, Mode, Name, NoMemory, Row};
+use page_base::{Column, Columns, Mode, Name, NoMemory, Row, RowList};
 use page_dev::PageFile;
 use plain_model::{Reply, SetList, Stmt, UpdateStmt};
 use snap_pages::SnapPages;
 use std::alloc::Global;
 use stmt_eval::Verdict;
 use table_pages::{
-    Edit, EditList, columns, find, has_key, place, plan_create, plan_insert, plan_update,
-    read_table,
+    Edit, EditList, columns, find, has_key, place, plan_change, plan_create, read_table,
 };
 
 // A decision with one edit.
@@ -78,41 +78,49 @@ fn is_as_wide(row: &Row, cols: &Columns) -> bool
     row.len() == cols.len()
 }
 
+// A list of one row.
+fn one_row(alloc: Global, row: Row) -> Result<RowList, NoMemory>
+    ensures { IfOk result (λ rows. rows ≡ row ∷ []) }
+{
+    let mut rows = RowList::new(alloc);
+    rows.push(row)?;
+    Ok(rows)
+}
+
 // INSERT of this row into the table of page `i`
 fn insert_row<P: PageFile>(
     alloc: Global,
     pages: &SnapPages<P>,
     name: Name,
     i: u32,
-    row: &Row,
+    row: Row,
 ) -> Result<Decision, NoMemory>
     requires few { data_pages pages.now < 4294967295 }
     requires there { i < data_pages pages.now }
     requires pages { (p : PageId) → IsPage (img pages.now p) }
     requires packed { IsPacked (data_pages pages.now) (slots_of (img pages.now)) }
-    requires some { 0 < length row.now }
-    requires ints { list_all is_int_value row.now ≡ true }
+    requires ints { list_all is_int_value row ≡ true }
     ensures { IfOk result (λ d. (opening : Opening) (seen : Seen) (stmt : InsertStmt) (t : Table) → Setting opening opening.source pages.now seen →
-        is_built (Insert stmt) ≡ true → new_rows stmt ≡ row.now ∷ [] → stmt.table ≡ name →
+        is_built (Insert stmt) ≡ true → new_rows stmt ≡ row ∷ [] → stmt.table ≡ name →
         Holds (img pages.now (place i)) name t → finite.get seen.source name ≡ Some t →
         IsDecision opening opening.source pages.now seen (Insert stmt) d) }
 {
     let cols = columns(alloc, pages.image(place(i)))?;
-    if !is_as_wide(row, &cols) {
+    if !is_as_wide(&row, &cols) {
         return Ok(only(alloc, Answer::UnderAll(Mode::S, refused(60013))));
     }
-    if has_key(pages.image(place(i)), &cols, row) {
+    if has_key(alloc, pages.image(place(i)), &cols, &row)? {
         return Ok(only(
             alloc,
             Answer::UnderTable(name, Mode::X, refused_at(2627, 1)),
         ));
     }
-    match plan_insert(alloc, pages, i, row)? {
-        Some(edit) => with_edit(
-            alloc,
-            Answer::UnderTable(name, Mode::X, Reply::Count(1)),
-            edit,
-        ),
+    let put = one_row(alloc, row)?;
+    match plan_change(alloc, pages, i, &cols, &put, &RowList::new(alloc))? {
+        Some(edits) => Ok(Decision {
+            answer: Answer::UnderTable(name, Mode::X, Reply::Count(1)),
+            edits,
+        }),
         None => Ok(only(alloc, Answer::UnderTable(name, Mode::X, refused(1105)))),
     }
 }
@@ -122,14 +130,14 @@ pub(crate) fn insert_in_source<P: PageFile>(
     alloc: Global,
     pages: &SnapPages<P>,
     name: Name,
-    row: &Row,
+    row: Row,
 ) -> Result<Decision, NoMemory>
     requires few { data_pages pages.now < 4294967295 }
     requires pages { (p : PageId) → IsPage (img pages.now p) }
     requires packed { IsPacked (data_pages pages.now) (slots_of (img pages.now)) }
-    requires ints { list_all is_int_value row.now ≡ true }
+    requires ints { list_all is_int_value row ≡ true }
     ensures { IfOk result (λ d. (opening : Opening) (seen : Seen) (stmt : InsertStmt) → Setting opening opening.source pages.now seen →
-        is_built (Insert stmt) ≡ true → new_rows stmt ≡ row.now ∷ [] → stmt.table ≡ name →
+        is_built (Insert stmt) ≡ true → new_rows stmt ≡ row ∷ [] → stmt.table ≡ name →
         IsDecision opening opening.source pages.now seen (Insert stmt) d) }
 {
     let Some(i) = find(pages, &name) else {
@@ -214,12 +222,20 @@ fn update_rows<P: PageFile>(
         Holds (img pages.now (place i)) stmt.now.table t → finite.get seen.source stmt.now.table ≡ Some t →
         IsDecision opening opening.source pages.now seen (Update stmt.now) d) }
 {
-    let edits = plan_update(alloc, pages, i, cols, &stmt.sets)?;
-    let count = read_table(alloc, pages.image(place(i)))?.len() as u64;
-    Ok(Decision {
-        answer: Answer::UnderTable(stmt.table, Mode::X, Reply::Count(count)),
-        edits,
-    })
+    let table = read_table(alloc, pages.image(place(i)))?;
+    let old = table.rows(alloc)?;
+    let put = updated_rows(alloc, stmt.sets.as_slice(), cols.as_slice(), old.as_slice())?;
+    let count = put.len() as u64;
+    match plan_change(alloc, pages, i, cols, &put, &RowList::new(alloc))? {
+        Some(edits) => Ok(Decision {
+            answer: Answer::UnderTable(stmt.table, Mode::X, Reply::Count(count)),
+            edits,
+        }),
+        None => Ok(only(
+            alloc,
+            Answer::UnderTable(stmt.table, Mode::X, refused(1105)),
+        )),
+    }
 }
 
 // UPDATE in the source

@@ -21,6 +21,7 @@ mod seat;
 mod seeing;
 #[cfg(test)]
 mod tests;
+mod updated;
 mod verdicts;
 
 pub use closing::CloseEnd;

@@ -5,7 +5,7 @@ ghost use Rattle.std.specs.List.{list_all};
 ghost use Rattle.plain_model.specs.declared.stmt.Stmt.TheVariants.{Insert, Update};
 ghost use Rattle.plain_model.specs.Meaning.{literal, new_rows};
 ghost use Rattle.plain_model.specs.Next.{is_built, is_int, is_small_number};
-ghost use Rattle.table_pages.specs.Rows.{is_int_value};
+ghost use Rattle.engine_core.specs.Ints.{is_int_value};
 
 use page_base::{ColType, Column, NoMemory, Row, Value};
 use plain_model::{Expr, ExprList, InsertStmt, UpdateStmt};
@@ -35,7 +35,7 @@ fn is_small_number(entry: &Expr) -> bool
 }
 
 // The value of a number literal that an INT column takes.
-fn literal(entry: &Expr) -> Value
+pub(crate) fn literal(entry: &Expr) -> Value
     requires { is_small_number entry.now ≡ true }
     ensures value { result ≡ literal entry.now }
     ensures int { is_int_value result ≡ true }

@@ -142,12 +142,12 @@ IsField-big = record { some = Big (pos 0); some_fits = (tt, zero_fits_big); take
 
 -- ---- VARCHAR
 
-IsText-true : (max : ℕ) (text : List ℕ) → is_text max text ≡ true → IsText max text
+pub IsText-true : (max : ℕ) (text : List ℕ) → is_text max text ≡ true → IsText max text
 IsText-true max text h =
     let parts = and_parts (nat_le (length text) max) (list_all is_text_byte text) h in
     record { short = grind (arith, nat_tests, parts.0); each = AllPass-from_list_all is_text_byte text parts.1 }
 
-IsText-back : (max : ℕ) (text : List ℕ) → IsText max text → is_text max text ≡ true
+pub IsText-back : (max : ℕ) (text : List ℕ) → IsText max text → is_text max text ≡ true
 IsText-back max text h =
     let len : length text ≤ max = h.short in
     let short : nat_le (length text) max ≡ true = grind (arith, nat_tests) in

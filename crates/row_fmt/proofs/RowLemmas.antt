@@ -212,7 +212,7 @@ unfolding row_bytes
 unfolded row = refl
 
 -- bytes that are a row are read as that row
-row_again : (columns : List Column) (bytes : List ℕ) (row : List Value) → IsRow columns bytes row → row_at columns bytes ≡ ok row []
+pub row_again : (columns : List Column) (bytes : List ℕ) (row : List Value) → IsRow columns bytes row → row_at columns bytes ≡ ok row []
 row_again columns bytes row r =
     ap (row_at columns) (r.spelled ∙ unfolded row ∙ sym (append-nil (concat (row_fields row)))) ∙ (IsFormat-row columns).again row [] r.of
 

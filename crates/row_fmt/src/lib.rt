@@ -3,6 +3,7 @@
 
 mod decoding;
 mod encoding;
+mod fitting;
 mod reader;
 mod refusal;
 mod sizes;
@@ -11,5 +12,6 @@ mod tests;
 
 pub use decoding::decode;
 pub use encoding::encode;
+pub use fitting::fits;
 pub use refusal::RowRefusal;
 pub use sizes::{key_size, size};

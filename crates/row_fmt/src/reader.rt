@@ -89,7 +89,7 @@ fn are_text_bytes(text: &[u8]) -> bool
 }
 
 // Whether these bytes are a text that a column of at most so many bytes may hold.
-fn is_text(max: u16, text: &[u8]) -> bool
+pub(crate) fn is_text(max: u16, text: &[u8]) -> bool
     ensures { result ≡ is_text max text.now }
 {
     text.len() <= max as usize && are_text_bytes(text)

@@ -1,11 +1,10 @@
 -- What callers know of the pages that they went over in search of a table, and of plans that are carried out edit by edit.
-use Rattle.std.proofs.Common.{◌≡◌, ℕ, suc, ◌+◌, ◌-◌, ◌<◌, ◌≤◌, Bool, true, false, cond, inl, inr, List, [], ◌∷◌, map, All, refl, ap, sym, ◌∙◌, subst, arith}
+use Rattle.std.proofs.Common.{◌≡◌, ℕ, suc, ◌+◌, ◌-◌, ◌<◌, ◌≤◌, Bool, true, false, cond, inl, inr, List, [], ◌∷◌, All, refl, ap, sym, ◌∙◌, subst, arith}
 use Rattle.std.specs.Prelude.{Some, None, slice_index}
 use Rattle.std.specs.FinMap as finite
 use Rattle.std.specs.Str.{bytes_eq}
 use Rattle.std.specs.Cmp.Lexicographic.{nat_list_cmp_total}
-use Rattle.std.specs.List.{list_all}
-use Rattle.std.proofs.lemmas.Bool.{cases_lt, cases_eq, and_parts}
+use Rattle.std.proofs.lemmas.Bool.{cases_lt, cases_eq}
 use Rattle.std.proofs.lemmas.Slice.Eq.{bytes_eq-Decides}
 use Rattle.page_base.specs.declared.numbers.PageId.{PageId}
 use Rattle.page_base.specs.Pages.{blank, is_page, set_at}
@@ -13,16 +12,12 @@ use Rattle.page_base.specs.Slots.{Slots, with_slot}
 use Rattle.page_fmt.specs.Content.{content, IsPage}
 use Rattle.page_fmt.specs.Edits.{edited, slot_at, LacksRoom}
 use Rattle.page_fmt.proofs.CallerLemmas.{content-blank}
-use Rattle.plain_model.specs.declared.expr.Expr.{Expr}
 use Rattle.plain_model.specs.Tables.{Table, Tables}
-use Rattle.plain_model.specs.Meaning.{literal}
 use Rattle.plain_model.specs.Sound.{is_definition}
-use Rattle.plain_model.specs.Next.{is_small_number}
 use Rattle.snap_pages.specs.Shown.{Shown, img, counts}
 use Rattle.snap_pages.specs.Slots.{slots_of}
 use Rattle.table_pages.specs.declared.edit.Edit.{Edit}
 use Rattle.table_pages.specs.Gathered.{Item, Skip, Bad, Has}
-use Rattle.table_pages.specs.Rows.{is_int_value}
 use Rattle.table_pages.specs.Layout.{place, table_at, tables_of, IsBlankAt, IsPacked, IsOther, Passed}
 use Rattle.table_pages.specs.Edits.{done, FitIn, Change}
 use Rattle.table_pages.specs.Carried.{data_pages, decoded, Holds, Carries}
@@ -30,7 +25,6 @@ use Rattle.table_pages.proofs.CollectLemmas.{collect_at, collect_good, collect_l
 use Rattle.table_pages.proofs.OrderLemmas.{names_exact}
 use Rattle.table_pages.proofs.PageLemmas.{table_is, skip_is, bare_skips}
 use Rattle.table_pages.proofs.HeaderLemmas.{header_is}
-use Rattle.table_pages.proofs.SetsLemmas.{literal-int}
 
 -- THE TABLE OF A NAME
 
@@ -178,10 +172,3 @@ blank_packed n slots none = record { behind = λ i j lt high blank_at. none (pla
 -- a table's columns are a good definition
 pub held_definition : (image name : List ℕ) (t : Table) → Holds image name t → is_definition t.cols ≡ true
 held_definition image name t holds = (header_is (slot_at (content image) 0) name t.cols (table_is (slot_at (content image)) name t holds).header).definition
-
--- numbers that INT columns take are INTs
-pub literals-ints : (es : List Expr) → list_all is_small_number es ≡ true → list_all is_int_value (map literal es) ≡ true
-literals-ints [] h = refl
-literals-ints (e ∷ es) h =
-    let parts = and_parts (is_small_number e) (list_all is_small_number es) h in
-    rw (literal-int e parts.0) (literals-ints es parts.1)

@@ -7,7 +7,7 @@ use Rattle.std.specs.declared.cmp.Ordering.TheVariants.{Less, Equal, Greater}
 use Rattle.std.specs.Ordering.{is_eq, eq_by_cmp}
 use Rattle.std.specs.Cmp.{IsTotalOrder, eq_by_cmp_equiv}
 use Rattle.std.specs.FinMap as finite
-use Rattle.std.specs.FinMap.{FinMap, IsAntisymmetric, get-insert, get-empty, same_map}
+use Rattle.std.specs.FinMap.{FinMap, IsAntisymmetric, get-insert, get-remove, get-empty, same_map}
 use Rattle.std.proofs.lemmas.Bool.{cases_eq}
 use Rattle.table_pages.specs.Gathered.{Item, Skip, Bad, Has, joined, collect}
 
@@ -39,7 +39,7 @@ not_there (Some x) e = cc
 pub ties : {K : Type 0} {R : K → K → Ordering} → IsAntisymmetric R → (q k : K) → eq_by_cmp R q k ≡ true → q ≡ k
 ties {R = R} same q k e = same q k (equal (R q k) e)
 
-itself : {K : Type 0} {R : K → K → Ordering} → IsTotalOrder R → (k : K) → eq_by_cmp R k k ≡ true
+pub itself : {K : Type 0} {R : K → K → Ordering} → IsTotalOrder R → (k : K) → eq_by_cmp R k k ≡ true
 itself o k = (eq_by_cmp_equiv o).refl k
 
 module _ {K X : Type 0} {R : K → K → Ordering} (o : IsTotalOrder R) (same : IsAntisymmetric R) where
@@ -220,3 +220,76 @@ module _ {K X : Type 0} {R : K → K → Ordering} (o : IsTotalOrder R) (same : 
       skip : (item : Item K X) (old : Option (FinMap R X)) → item ≡ Skip → joined item old ≡ old
       skip item None e = refl
       skip item (Some m) e = ap (λ t. joined t (Some m)) e
+
+  -- A PLACE GIVES UP ITS ENTRY
+
+  -- one place holds a key
+  pub collect_once : (f : ℕ → Item K X) (n i j : ℕ) (m : FinMap R X) (k : K) (x y : X) → collect f n ≡ Some m → i < n → j < n → f i ≡ Has k x → f j ≡ Has k y → i ≡ j
+  collect_once f zero i j m k x y e li lj a b = absurd (omega arith)
+  collect_once f (suc n) i j m k x y e li lj a b =
+      let l = left (f n) (collect f n) m e in
+      elim (cases_eq i n) [
+        | inl here ↦ elim (cases_eq j n) [
+          | inl there ↦ omega arith
+          | inr ne ↦
+              let h = has_joined k x l.before m (ap (λ item. joined item (Some l.before)) (sym (ap f (sym here) ∙ a)) ∙ l.joins) in
+              no_Some y (sym (collect_at f n j l.before k y l.was (omega arith) b) ∙ h.new)
+        ]
+        | inr ne ↦ elim (cases_eq j n) [
+          | inl there ↦
+              let h = has_joined k y l.before m (ap (λ item. joined item (Some l.before)) (sym (ap f (sym there) ∙ b)) ∙ l.joins) in
+              no_Some x (sym (collect_at f n i l.before k x l.was (omega arith) a) ∙ h.new)
+          | inr other ↦ collect_once f n i j l.before k x y l.was (omega arith) (omega arith) a b
+        ]
+      ]
+
+  remove_swap : (m : FinMap R X) (q k : K) (z : X) → eq_by_cmp R q k ≡ false → finite.insert (finite.remove m k) q z ≡ finite.remove (finite.insert m q z) k
+  remove_swap m q k z ne = same_map o same _ _ (λ p. sym (
+      get-remove o (finite.insert m q z) k p ∙ ap (cond (eq_by_cmp R p k) None) (get-insert o m q z p)
+      ∙ swapped (eq_by_cmp R p k) (eq_by_cmp R p q) None (Some z) (finite.get m p) (λ a b. let e : true ≡ false = sym (itself o k) ∙ ap (λ r. eq_by_cmp R r k) (sym (ties same p k a) ∙ ties same p q b) ∙ ne in cc)
+      ∙ sym (get-insert o (finite.remove m k) q z p ∙ ap (cond (eq_by_cmp R p q) (Some z)) (get-remove o m k p))))
+
+  remove_new : (m : FinMap R X) (k : K) (x : X) → finite.get m k ≡ None → finite.remove (finite.insert m k x) k ≡ m
+  remove_new m k x none = same_map o same _ _ (λ p. get-remove o (finite.insert m k x) k p ∙ ap (cond (eq_by_cmp R p k) None) (get-insert o m k x p) ∙ at p (eq_by_cmp R p k) refl)
+    where
+      at : (p : K) (b : Bool) → eq_by_cmp R p k ≡ b → cond b None (cond b (Some x) (finite.get m p)) ≡ finite.get m p
+      at p true e = sym (ap (finite.get m) (ties same p k e) ∙ none)
+      at p false e = refl
+
+  -- a key that isn't there is removed
+  pub remove_absent : (m : FinMap R X) (k : K) → finite.get m k ≡ None → finite.remove m k ≡ m
+  remove_absent m k none = same_map o same _ _ (λ p. get-remove o m k p ∙ at p (eq_by_cmp R p k) refl)
+    where
+      at : (p : K) (b : Bool) → eq_by_cmp R p k ≡ b → cond b None (finite.get m p) ≡ finite.get m p
+      at p true e = sym (ap (finite.get m) (ties same p k e) ∙ none)
+      at p false e = refl
+
+  pub get_left : (m : FinMap R X) (q k : K) → eq_by_cmp R q k ≡ false → finite.get (finite.remove m k) q ≡ finite.get m q
+  get_left m q k ne = get-remove o m k q ∙ ap (λ b. cond b None (finite.get m q)) ne
+
+  -- behind a place that gave up its entry
+  past_cut : (item : Item K X) (before m : FinMap R X) (k : K) → joined item (Some before) ≡ Some m → ((q : K) (z : X) → item ≡ Has q z → eq_by_cmp R q k ≡ false) → joined item (Some (finite.remove before k)) ≡ Some (finite.remove m k)
+  past_cut Skip before m k e ne = ap (λ (t : FinMap R X). Some (finite.remove t k)) (same_Some before m e)
+  past_cut Bad before m k e ne = no_Some m (sym e)
+  past_cut (Has q z) before m k e ne =
+      let h = has_joined q z before m e in
+      join_new q z (finite.remove before k) (get_left before q k (ne q z refl) ∙ h.new)
+      ∙ ap (λ (t : FinMap R X). Some t) (remove_swap before q k z (ne q z refl) ∙ ap (λ t. finite.remove t k) (sym h.is))
+
+  -- a place gives up its entry
+  pub collect_cut : (f g : ℕ → Item K X) (n p : ℕ) (m : FinMap R X) (k : K) (x : X) → collect f n ≡ Some m → p < n → f p ≡ Has k x → g p ≡ Skip → ((i : ℕ) → i ≢ p → g i ≡ f i) → collect g n ≡ Some (finite.remove m k)
+  collect_cut f g zero p m k x e lt old new rest = absurd (omega arith)
+  collect_cut f g (suc n) p m k x e lt old new rest =
+      let l = left (f n) (collect f n) m e in
+      elim (cases_eq p n) [
+        | inl here ↦
+            let h = has_joined k x l.before m (ap (λ item. joined item (Some l.before)) (sym (ap f (sym here) ∙ old)) ∙ l.joins) in
+            let same_front : collect g n ≡ Some l.before = collect_same f g n (λ i low. rest i (λ is. let no : i < i = omega arith in omega arith)) ∙ l.was in
+            (λ t. joined ((ap g (sym here) ∙ new) t) (same_front t))
+            ∙ ap (λ (t : FinMap R X). Some t) (sym (remove_new l.before k x h.new) ∙ ap (λ t. finite.remove t k) (sym h.is))
+        | inr ne ↦
+            let lower : p < n = omega arith in
+            let low : finite.get l.before k ≡ Some x = collect_at f n p l.before k x l.was lower old in
+            (λ t. joined (rest n (λ is. ne (sym is)) t) (collect_cut f g n p l.before k x l.was lower old new rest t))
+            ∙ past_cut (f n) l.before m k l.joins (λ q z is. apart l.before q k x (has_joined q z l.before m (ap (λ item. joined item (Some l.before)) (sym is) ∙ l.joins)).new low)
+      ]

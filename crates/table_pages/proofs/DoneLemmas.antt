@@ -5,12 +5,10 @@ use Rattle.page_base.specs.declared.numbers.PageId.{PageId}
 use Rattle.page_base.specs.Pages.{is_page, set_at}
 use Rattle.page_base.specs.Slots.{Slots, with_slot}
 use Rattle.page_base.proofs.PagesLemmas.{cases_page, is_page-same, is_page-other}
-use Rattle.page_fmt.specs.Spelling.{used}
 use Rattle.page_fmt.specs.Edits.{edited, slot_at}
-use Rattle.page_fmt.proofs.SlotLemmas.{length-set_slot, row_bytes-set_slot}
 use Rattle.page_fmt.proofs.CallerLemmas.{slot_at-edited}
 use Rattle.table_pages.specs.declared.edit.Edit.{Edit}
-use Rattle.table_pages.specs.Edits.{done, HasRoom, FitIn, Change, AreInOrder}
+use Rattle.table_pages.specs.Edits.{done, HasRoom, FitIn, Change}
 
 -- the slots of each page
 abbrev pub Contents : Type 0
@@ -71,27 +69,3 @@ change_more (d ∷ es) e s changes ne = (changes.0, change_more es e (with_slot 
 pub each_more : (P : Edit → Type 0) (es : List Edit) (e : Edit) → AllByRecursion P es → P e → AllByRecursion P (es ++ e ∷ [])
 each_more P [] e each here = (here, tt)
 each_more P (d ∷ es) e each here = (each.0, each_more P es e each.1 here)
-
--- an edit of a slot behind all others
-pub order_more : (p : PageId) (slot k : ℕ) (es : List Edit) (e : Edit) → AreInOrder p slot es → AllByRecursion (λ (d : Edit). d.slot < k) es → slot < k → e.page ≡ p → e.slot ≡ k → AreInOrder p slot (es ++ e ∷ [])
-order_more p slot k [] e order below lt at here = (at, omega arith, tt)
-order_more p slot k (d ∷ es) e order below lt at here = (order.0, order.1, order_more p d.slot k es e order.2 below.1 below.0 at here)
-
--- each slot is below a greater number too
-pub below_later : (k : ℕ) (es : List Edit) → AllByRecursion (λ (d : Edit). d.slot < k) es → AllByRecursion (λ (d : Edit). d.slot < k + 1) es
-below_later k [] each = tt
-below_later k (d ∷ es) each = (let lt = each.0 in omega arith, below_later k es each.1)
-
--- A SLOT THAT KEEPS ITS LENGTH
-
--- the page takes as many bytes as before
-pub set_same : (slots : List (List ℕ)) (i : ℕ) (x : List ℕ) → i < length slots → x ≢ [] → length x ≡ length (slot_at slots i) → (used (edited slots i x) ≡ used slots) × (length (edited slots i x) ≡ length slots)
-set_same slots i [] lt full e = absurd (full refl)
-set_same slots i (b ∷ bs) lt full e =
-    let long = length-set_slot slots i (b ∷ bs) in
-    let sum = row_bytes-set_slot slots i (b ∷ bs) in
-    (omega arith, omega arith)
-
--- a slot is no longer than its page
-pub slot_short : (slots : List (List ℕ)) (i : ℕ) → used slots ≤ 8192 → i < length slots → length (slot_at slots i) ≤ 8094
-slot_short slots i small lt = let sum = row_bytes-set_slot slots i [] in omega arith

@@ -1,5 +1,5 @@
 -- The table that a page holds, as the calls that read a page find it.
-use Rattle.std.proofs.Common.{◌≡◌, ◌≢◌, ℕ, ◌+◌, ◌-◌, ◌<◌, ◌≤◌, Bool, true, false, inl, inr, IsTrue, List, [], length, refl, ap, sym, ◌∙◌, subst, arith}
+use Rattle.std.proofs.Common.{◌≡◌, ◌≢◌, ℕ, ◌+◌, ◌-◌, ◌<◌, ◌≤◌, Bool, true, false, inl, inr, IsTrue, List, [], ◌∷◌, length, map, refl, ap, sym, ◌∙◌, subst, arith}
 use Rattle.std.specs.Prelude.{◌↔◌, Some, Ok}
 use Rattle.std.specs.Option.{is_some}
 use Rattle.std.specs.FinMap as finite
@@ -11,13 +11,22 @@ use Rattle.page_fmt.specs.Content.{content, IsPage}
 use Rattle.page_fmt.specs.Edits.{slot_at}
 use Rattle.plain_model.specs.Tables.{Table, key_of, with_row}
 use Rattle.table_pages.specs.Gathered.{collect}
-use Rattle.table_pages.specs.Rows.{row_of}
+use Rattle.row_fmt.specs.Rows.{FitsColumns}
+use Rattle.page_base.specs.Order.{key_cmp}
+use Rattle.std.proofs.lemmas.List.{nil_from_length}
+use Rattle.std.specs.List.{AllByRecursion}
+use Rattle.std.specs.Ordering.{match_ordering}
+use Rattle.std.specs.declared.cmp.Ordering.{Ordering}
+use Rattle.std.specs.declared.cmp.Ordering.TheVariants.{Less, Equal, Greater}
+use Rattle.page_base.proofs.Ordered.{key_cmp_total}
+use Rattle.table_pages.proofs.StoredLemmas.{Entries}
+use Rattle.table_pages.specs.Rows.{row_of, HoldsFitting}
 use Rattle.table_pages.specs.Headers.{name_at, columns_at}
 use Rattle.table_pages.specs.Reading.{Stops}
 use Rattle.table_pages.specs.Layout.{row_at}
 use Rattle.table_pages.specs.Carried.{Holds}
 use Rattle.table_pages.proofs.HeaderLemmas.{IsHeader, header_is}
-use Rattle.table_pages.proofs.PageLemmas.{table_is, few_slots, slot_past, Passes, Puts, front_more, front_all, row_there, row_lacks, page_slot, Empty, Row}
+use Rattle.table_pages.proofs.PageLemmas.{table_is, few_slots, slot_past, Passes, Puts, front_more, front_all}
 
 held_header : (image held : List ℕ) (t : Table) → Holds image held t → IsHeader (slot_at (content image) 0) held t.cols
 held_header image held t h = header_is (slot_at (content image) 0) held t.cols (table_is (slot_at (content image)) held t h).header
@@ -74,53 +83,27 @@ read_all image held i t table h page pos le so_far =
     let rows = front_all t.cols slots t.rows (table_is slots held t h).rows (length (content image)) i table.rows (slot_past image) (few_slots image page) le pos so_far.rows in
     λ k. record { cols = so_far.cols k; rows = rows k }
 
--- ONE KEY
+-- WHAT THE COLUMNS MAY HOLD
 
--- no slot before slot i is a row with the key of this row
-pub record LacksKey (image : List ℕ) (cols : List Column) (row : List Value) (i : ℕ) : Type 0 where
-  pub each : (j : ℕ) (read : List Value) → 0 < j → j < i → slot_at (content image) j ≢ [] → row_of cols (slot_at (content image) j) ≡ Some read → key_of cols read ≢ key_of cols row
+-- a table without rows
+pub fitting_none : (cols : List Column) → HoldsFitting (record { cols = cols; rows = finite.empty })
+fitting_none cols = subst (λ (es : Entries). AllByRecursion (FitsColumns cols) (map (λ (e : List Value × List Value). e.1) es)) (sym none) tt
+  where
+    none : finite.entries (finite.empty {X = List Value} {R = key_cmp}) ≡ []
+    none = nil_from_length _ (sym (finite.len-entries finite.empty) ∙ finite.len-empty key_cmp (List Value))
 
--- what the test of a slot's key says
-pub record IsKeyTest (cols : List Column) (bytes : List ℕ) (row : List Value) (r : Bool) : Type 0 where
-  pub full : IsTrue r → bytes ≢ []
-  pub same : (read : List Value) → bytes ≢ [] → row_of cols bytes ≡ Some read → (IsTrue r ↔ (key_of cols read ≡ key_of cols row))
+-- a value more among others
+put_each : (P : List Value → Type 0) (k v : List Value) (es : Entries) → P v → AllByRecursion P (map (λ (e : List Value × List Value). e.1) es) → AllByRecursion P (map (λ (e : List Value × List Value). e.1) (finite.put key_cmp k v es))
+put_each P k v [] here each = (here, tt)
+put_each P k v (e ∷ es) here each = by (key_cmp k e.0) (put_each P k v es here each.1)
+  where
+    by : (o : Ordering) → AllByRecursion P (map (λ (e : List Value × List Value). e.1) (finite.put key_cmp k v es)) → AllByRecursion P (map (λ (e : List Value × List Value). e.1) (match_ordering o ((k, v) ∷ e ∷ es) ((e.0, v) ∷ es) (e ∷ finite.put key_cmp k v es)))
+    by Less more = (here, each)
+    by Equal more = (here, each.1)
+    by Greater more = (each.0, more)
 
--- one slot more lacks the key
-pub lacks_more : (image bytes : List ℕ) (cols : List Column) (row : List Value) (i : ℕ) (r : Bool) → bytes ≡ slot_at (content image) i → IsKeyTest cols bytes row r → r ≡ false → LacksKey image cols row i → LacksKey image cols row (i + 1)
-lacks_more image bytes cols row i r at test isnt lacks = record {
-  each = λ j read pos lt full e same. elim (cases_lt j i) [
-    | inl low ↦ lacks.each j read pos low full e same
-    | inr high ↦
-        let j_is : j ≡ i = omega arith in
-        let here : slot_at (content image) j ≡ bytes = ap (slot_at (content image)) j_is ∙ sym at in
-        let is : r ≡ true = (test.same read (λ f. full (here ∙ f)) (ap (row_of cols) (sym here) ∙ e)).1 same in
-        absurd (let wrong : false ≡ true = sym isnt ∙ is in cc)
-  ];
-}
-
--- a slot has the key
-pub key_there : (image bytes held : List ℕ) (cols : List Column) (row : List Value) (i : ℕ) (t : Table) (r : Bool) → Holds image held t → cols ≡ t.cols → 0 < i → i < 4048 → bytes ≡ slot_at (content image) i → IsKeyTest cols bytes row r → r ≡ true →
-    true ≡ finite.contains_key t.rows (key_of t.cols row)
-key_there image bytes held cols row i t r h same_cols pos lt at test yes_it_is =
-    let page : ℕ → List ℕ = slot_at (content image) in
-    let whole = (table_is page held t h).rows in
-    let full : page i ≢ [] = λ f. test.full yes_it_is (at ∙ f) in
-    elim (page_slot t.cols page t.rows whole i pos lt) [
-      | Empty e ↦ absurd (full e)
-      | Row read some e ↦
-          let there = row_there t.cols page t.rows whole i read pos lt full e in
-          let key = (test.same read (test.full yes_it_is) ((λ k. row_of (same_cols k) (at k)) ∙ e)).0 yes_it_is in
-          let same : key_of t.cols read ≡ key_of t.cols row = ap (λ (cs : List Column). key_of cs read) (sym same_cols) ∙ key ∙ ap (λ (cs : List Column). key_of cs row) same_cols in
-          sym (ap (λ (k : List Value). finite.contains_key t.rows k) (sym same) ∙ ap is_some there)
-    ]
-
--- no slot has the key
-pub key_absent : (image held : List ℕ) (cols : List Column) (row : List Value) (i : ℕ) (t : Table) → Holds image held t → cols ≡ t.cols → length (content image) ≤ i → LacksKey image cols row i → false ≡ finite.contains_key t.rows (key_of t.cols row)
-key_absent image held cols row i t h same_cols le lacks =
-    let page : ℕ → List ℕ = slot_at (content image) in
-    let none = row_lacks t.cols page t.rows (table_is page held t h).rows (key_of t.cols row) (λ j read pos lt full e same. elim (cases_lt j i) [
-      | inl low ↦ lacks.each j read pos low full (ap (λ (cs : List Column). row_of cs (page j)) same_cols ∙ e)
-          (ap (λ (cs : List Column). key_of cs read) same_cols ∙ same ∙ ap (λ (cs : List Column). key_of cs row) (sym same_cols))
-      | inr high ↦ full (slot_past image j (omega arith))
-    ]) in
-    sym (ap is_some none)
+-- one row more
+pub fitting_more : (t : Table) (row : List Value) → FitsColumns t.cols row → HoldsFitting t → HoldsFitting (with_row row t)
+fitting_more t row fits h =
+    subst (λ (es : Entries). AllByRecursion (FitsColumns t.cols) (map (λ (e : List Value × List Value). e.1) es)) (sym (finite.entries-insert key_cmp_total t.rows (key_of t.cols row) row))
+    (put_each (FitsColumns t.cols) (key_of t.cols row) row (finite.entries t.rows) fits h)

@@ -1,5 +1,6 @@
 pub mod CollectLemmas
 mod OrderLemmas
+mod IndexLemmas
 mod NameLemmas
 mod NumberLemmas
 mod KeyedLemmas
@@ -14,9 +15,10 @@ pub mod CallerLemmas
 mod FoundLemmas
 mod RoomLemmas
 mod PlanLemmas
-mod MappedLemmas
-mod SetsLemmas
 mod DoneLemmas
-mod UpdateLemmas
-mod PlannedLemmas
+mod FullLemmas
+mod DraftLemmas
+mod PassLemmas
+mod ChangeLemmas
+mod SizeLemmas
 mod TrialLemmas

@@ -1,4 +1,4 @@
--- What the edit of a new table and that of a new row carry the pages to.
+-- What the edit of a new table carries the pages to.
 use Rattle.std.proofs.Common.{◌≡◌, ◌≢◌, ℕ, zero, suc, ◌+◌, ◌-◌, ◌*◌, ◌<◌, ◌≤◌, max, true, false, inl, inr, List, [], ◌∷◌, ◌++◌, length, All, refl, ap, sym, ◌∙◌, subst, arith}
 use Rattle.std.specs.Prelude.{Option, Some, None}
 use Rattle.std.specs.Option.{is_some}
@@ -20,24 +20,20 @@ use Rattle.page_fmt.specs.Edits.{edited, slot_at}
 use Rattle.page_fmt.proofs.CallerLemmas.{IsPage-blank, content-blank, same_page}
 use Rattle.plain_model.specs.Tables.{Table, Tables, Add, Put, changed, applied, with_row, key_of}
 use Rattle.plain_model.specs.Sound.{is_definition}
-use Rattle.plain_model.specs.Next.{is_int}
 use Rattle.snap_pages.specs.Shown.{Shown, img, IsThere}
 use Rattle.snap_pages.specs.Slots.{slots_of}
 use Rattle.table_pages.specs.declared.edit.Edit.{Edit}
 use Rattle.table_pages.specs.Gathered.{Item, Skip, Bad, Has}
-use Rattle.table_pages.specs.Rows.{is_int_value, row_bytes, row_of}
 use Rattle.table_pages.specs.Headers.{column_bytes, header, header_of}
 use Rattle.table_pages.specs.Names.{AreKept}
-use Rattle.table_pages.specs.Fitting.{FitInts}
 use Rattle.table_pages.specs.Layout.{row_item, row_at, rows_in, table_item, place, table_at, tables_of, IsPacked}
 use Rattle.table_pages.specs.Edits.{HasRoom}
-use Rattle.table_pages.specs.Carried.{data_pages, decoded, Holds, Carries, IsFirstBlank, IsFirstEmpty}
+use Rattle.table_pages.specs.Carried.{data_pages, decoded, Carries, IsFirstBlank}
 use Rattle.table_pages.proofs.CollectLemmas.{collect_new, collect_set, collect_good}
 use Rattle.table_pages.proofs.OrderLemmas.{names_exact, keys_exact}
 use Rattle.table_pages.proofs.HeaderLemmas.{header_again}
-use Rattle.table_pages.proofs.RowLemmas.{row_of-row_bytes}
 use Rattle.table_pages.proofs.PageLemmas.{table_is, table_of, skip_is, bare_slots, bare_rows, row_has, row_skip, few_slots, slot_past}
-use Rattle.table_pages.proofs.RoomLemmas.{used-edited, row_bytes-some}
+use Rattle.table_pages.proofs.RoomLemmas.{used-edited}
 use Rattle.table_pages.proofs.CallerLemmas.{found_there, blank_holds_none}
 
 -- different tables have different pages
@@ -148,56 +144,3 @@ module _ (v : Shown) (name : List ℕ) (cols : List Column) (i : ℕ) (tables : 
   pub create_carries : Carries v (record { page = place i; slot = 0; bytes = header name cols } ∷ []) (applied (Add name cols) tables)
   create_carries = one_edit v (record { page = place i; slot = 0; bytes = header name cols }) (applied (Add name cols) tables) (page_there v i blank_at.within)
       (record { index = omega arith; short = short; room = room }) (λ same. full (same ∙ blank_at.blank)) create_says (front_packed v i (header name cols) packed blank_at full)
-
--- A NEW ROW
-
-module _ (v : Shown) (i slot : ℕ) (row : List Value) (name : List ℕ) (t : Table) (tables : Tables) (within : i < data_pages v) (first : IsFirstEmpty (img v (place i)) slot) (packed : IsPacked (data_pages v) (slots_of (img v)))
-    (some : 0 < length row) (fits : FitInts row) (room : spelling.used (edited (content (img v (place i))) slot (row_bytes row)) ≤ 8192)
-    (holds : Holds (img v (place i)) name t) (e : decoded v ≡ Some tables) (ints : list_all is_int t.cols ≡ true) (values : list_all is_int_value row ≡ true) (long : length row ≡ length t.cols)
-    (new : finite.contains_key t.rows (key_of t.cols row) ≡ false) where
-  row_full : row_bytes row ≢ []
-  row_full f = let pos = row_bytes-some row some in let none : length (row_bytes row) ≡ 0 = ap length f in absurd (omega arith)
-
-  not_there : (o : Option (List Value)) → is_some o ≡ false → o ≡ None
-  not_there None e = refl
-  not_there (Some x) e = cc
-
-  at_slot : with_slot (slots_of (img v)) (place i) slot (row_bytes row) (place i) slot ≡ row_bytes row
-  at_slot = with_slot-same (slots_of (img v)) (place i) slot (row_bytes row)
-
-  elsewhere : (j : ℕ) → j ≢ slot → with_slot (slots_of (img v)) (place i) slot (row_bytes row) (place i) j ≡ slots_of (img v) (place i) j
-  elsewhere j ne = with_slot-slot (slots_of (img v)) (place i) (place i) slot j (row_bytes row) ne
-
-  rows_after : rows_in t.cols (with_slot (slots_of (img v)) (place i) slot (row_bytes row) (place i)) ≡ Some (finite.insert t.rows (key_of t.cols row) row)
-  unfolding rows_in
-  rows_after =
-      let page : ℕ → List ℕ = slots_of (img v) (place i) in
-      let new_page : ℕ → List ℕ = with_slot (slots_of (img v)) (place i) slot (row_bytes row) (place i) in
-      let table = table_is page name t holds in
-      let at : (slot - 1) + 1 ≡ slot = let low = first.low in omega arith in
-      let old : row_at t.cols page (slot - 1) ≡ Skip = ap (λ (k : ℕ). row_item t.cols (page k)) at ∙ row_skip t.cols (page slot) first.empty in
-      let is : row_of t.cols (new_page slot) ≡ Some row = ap (row_of t.cols) at_slot ∙ row_of-row_bytes t.cols row ints values long fits in
-      let has : row_at t.cols new_page (slot - 1) ≡ Has (key_of t.cols row) row = ap (λ (k : ℕ). row_item t.cols (new_page k)) at ∙ row_has t.cols (new_page slot) row (λ f. row_full (sym at_slot ∙ f)) is in
-      collect_new key_cmp_total keys_exact (row_at t.cols page) (row_at t.cols new_page) 4047 (slot - 1) t.rows (key_of t.cols row) row table.rows (let low = first.low in let high = first.high in omega arith) old
-      (not_there (finite.get t.rows (key_of t.cols row)) new) has (λ j ne. ap (row_item t.cols) (elsewhere (j + 1) (λ z. ne (omega arith))))
-
-  item_after : table_at (with_slot (slots_of (img v)) (place i) slot (row_bytes row)) i ≡ Has name (with_row row t)
-  item_after =
-      let page : ℕ → List ℕ = slots_of (img v) (place i) in
-      let table = table_is page name t holds in
-      let front : with_slot (slots_of (img v)) (place i) slot (row_bytes row) (place i) 0 ≡ page 0 = elsewhere 0 (λ z. let low = first.low in omega arith) in
-      table_of (with_slot (slots_of (img v)) (place i) slot (row_bytes row) (place i)) name t.cols (finite.insert t.rows (key_of t.cols row) row) (λ f. table.full (sym front ∙ f)) (ap header_of front ∙ table.header) rows_after
-
-  insert_says : tables_of (data_pages v) (with_slot (slots_of (img v)) (place i) slot (row_bytes row)) ≡ Some (applied (Put name row) tables)
-  unfolding tables_of
-  insert_says =
-      collect_set nat_list_cmp_total names_exact (table_at (slots_of (img v))) (table_at (with_slot (slots_of (img v)) (place i) slot (row_bytes row))) (data_pages v) i tables name t (with_row row t) e within holds item_after
-      (λ q ne. table_at-other (slots_of (img v)) i slot (row_bytes row) q ne)
-      ∙ ap (λ (o : Option Table). Some (changed tables name o (with_row row))) (sym (found_there (data_pages v) (slots_of (img v)) tables e i name t within holds))
-
-  -- the edit of a new row carries the pages to the tables with it
-  pub insert_carries : Carries v (record { page = place i; slot = slot; bytes = row_bytes row } ∷ []) (applied (Put name row) tables)
-  insert_carries =
-      let used_is = used-edited (content (img v (place i))) slot (row_bytes row) first.empty (row_bytes-some row some) in
-      one_edit v (record { page = place i; slot = slot; bytes = row_bytes row }) (applied (Put name row) tables) (page_there v i within)
-      (record { index = first.high; short = omega arith; room = room }) (λ same. row_full (same ∙ first.empty)) insert_says (row_packed (data_pages v) (slots_of (img v)) (place i) slot (row_bytes row) first.low packed)

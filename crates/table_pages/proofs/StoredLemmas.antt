@@ -61,3 +61,7 @@ stored-table cols es t rows is keyed sorted gives =
     record { columns = sym (ap (λ (t : Table). t.cols) is); values = sym (gives ∙ stored-rows cols es t is sorted);
         keys = subst (λ (cs : List Column). finite.keys t.rows ≡ map (key_of cs) rows) (sym (ap (λ (t : Table). t.cols) is))
         (subst (λ (rs : List (List Value)). finite.keys t.rows ≡ map (key_of t.cols) rs) (sym (gives ∙ stored-rows cols es t is sorted)) whole.keys) }
+
+-- one more row is copied
+pub copied_more : (all list list' rest : List (List Value)) (row r : List Value) → all ≡ list ++ row ∷ rest → r ≡ row → list' ≡ list ++ r ∷ [] → all ≡ list' ++ rest
+copied_more all list list' rest row r h is more = h ∙ sym (append_assoc list (row ∷ []) rest) ∙ ap (λ (l : List (List Value)). l ++ rest) (ap (λ (x : List Value). list ++ x ∷ []) (sym is) ∙ sym more)

@@ -1,17 +1,13 @@
 -- The tables of the source's pages, and plans of edits that carry them to others.
-use Rattle.std.specs.Prelude.{◌≡◌, ◌≢◌, ◌⊎◌, ℕ, ◌-◌, ◌<◌, List, [], length, All, Option, Some, slice_index}
+use Rattle.std.specs.Prelude.{◌≡◌, ◌⊎◌, ℕ, ◌-◌, ◌<◌, List, length, All, Option, Some, slice_index}
 use Rattle.page_fmt.specs.Content.{content}
-use Rattle.page_fmt.specs.Edits.{edited, slot_at}
-use Rattle.page_fmt.specs.Spelling.{used}
+use Rattle.page_fmt.specs.Edits.{slot_at}
 use Rattle.page_base.specs.declared.column.Column.{Column}
-use Rattle.page_base.specs.declared.numbers.PageId.{PageId}
-use Rattle.page_base.specs.declared.value.Value.{Value}
 use Rattle.snap_pages.specs.Shown.{Shown, img, counts, IsThere}
 use Rattle.snap_pages.specs.Slots.{slots_of}
 use Rattle.plain_model.specs.Tables.{Table, Tables}
 use Rattle.table_pages.specs.declared.edit.Edit.{Edit}
 use Rattle.table_pages.specs.Gathered.{Has}
-use Rattle.table_pages.specs.Rows.{row_bytes}
 use Rattle.table_pages.specs.Headers.{header}
 use Rattle.table_pages.specs.Layout.{table_item, tables_of, place, IsBlankAt, IsPacked}
 use Rattle.table_pages.specs.Edits.{done, FitIn, Change}
@@ -50,19 +46,6 @@ pub record IsFirstBlank (v : Shown) (i : ℕ) : Type 0 where
 abbrev pub LacksPage : Shown → List ℕ → List Column → Type 0
 LacksPage v name cols = IsFull v ⊎ (8094 < length (header name cols))
 
--- the first slot behind slot 0 that is empty
-pub record IsFirstEmpty (image : List ℕ) (slot : ℕ) : Type 0 where
-  pub low : 0 < slot
-  pub high : slot < 4048
-  pub empty : slot_at (content image) slot ≡ []
-  pub first : (j : ℕ) → 0 < j → j < slot → slot_at (content image) j ≢ []
-
--- the page has no room for the row in its first empty slot
-pub record LacksRow (image : List ℕ) (row : List Value) : Type 0 where
-  pub slot : ℕ
-  pub first : IsFirstEmpty image slot
-  pub lacks : 8192 < used (edited (content image) slot (row_bytes row))
-
 -- the edit of a new table: its header, in slot 0 of the first blank page
 pub record IsHeaderEdit (v : Shown) (name : List ℕ) (cols : List Column) (e : Edit) : Type 0 where
   pub at : ℕ
@@ -70,9 +53,3 @@ pub record IsHeaderEdit (v : Shown) (name : List ℕ) (cols : List Column) (e : 
   pub page : e.page ≡ place at
   pub slot : e.slot ≡ 0
   pub bytes : e.bytes ≡ header name cols
-
--- the edit of a new row: its bytes, in the first empty slot
-pub record IsRowEdit (image : List ℕ) (p : PageId) (row : List Value) (e : Edit) : Type 0 where
-  pub page : e.page ≡ p
-  pub slot : IsFirstEmpty image e.slot
-  pub bytes : e.bytes ≡ row_bytes row

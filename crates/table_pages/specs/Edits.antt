@@ -27,8 +27,3 @@ FitIn contents (e ∷ es) = HasRoom (contents e.page) e × FitIn (set_at content
 abbrev pub Change : Slots → List Edit → Type 0
 Change slots [] = Unit {0}
 Change slots (e ∷ es) = (e.bytes ≢ slots e.page e.slot) × Change (with_slot slots e.page e.slot e.bytes) es
-
--- the edits lie on this page, behind a slot, each behind the one before it
-abbrev pub AreInOrder : PageId → ℕ → List Edit → Type 0
-AreInOrder p slot [] = Unit {0}
-AreInOrder p slot (e ∷ es) = (e.page ≡ p) × (slot < e.slot) × AreInOrder p e.slot es

@@ -4,10 +4,12 @@ pub mod Rows
 pub mod Headers
 pub mod Reading
 pub mod Names
-pub mod Fitting
-pub mod Keys
 pub mod Layout
 pub mod Edits
 pub mod Carried
+pub mod Drafts
+pub mod Turns
+pub mod Drafting
+pub mod Passes
 pub mod Plans
 pub mod Trial

@@ -1,23 +1,27 @@
 //! Each table on a page of its own: how its pages are read, found and edited.
 #![tactic(auto)]
 
+mod changing;
+mod differing;
+mod draft;
 mod edit;
 mod finding;
 mod header;
 mod key;
+mod key_index;
+mod law;
 mod page;
 mod planning;
 mod reader;
-mod row;
 mod stored;
 #[cfg(test)]
 mod tests;
-mod updating;
 
+pub use changing::plan_change;
 pub use edit::{Edit, EditList};
 pub use finding::{data_pages, find, place};
 pub use key::key_of;
+pub use law::{rows_are_read_as_spelled, rows_have_their_size};
 pub use page::{columns, has_key, is_blank, is_named, read_table};
-pub use planning::{plan_create, plan_insert};
+pub use planning::plan_create;
 pub use stored::StoredTable;
-pub use updating::plan_update;

@@ -1,21 +1,22 @@
 //! The table of one page: whether there is one, its name, its columns and its rows.
 
-ghost use Rattle.std.specs.Prelude.{◌≡◌, ◌≢◌, ◌↔◌, ℕ, List, [], IsTrue, IfOk, OnOk, Some};
+ghost use Rattle.std.specs.Prelude.{◌≡◌, ◌≢◌, ◌↔◌, ◌<◌, ℕ, List, [], length, IsTrue, IfOk, OnOk, IfSome, Some};
 ghost use Rattle.std.specs.FinMap as finite;
 ghost use Rattle.std.specs.Str.{bytes_eq};
 ghost use Rattle.page_fmt.specs.Content.{content, IsPage};
 ghost use Rattle.page_fmt.specs.Edits.{slot_at};
 ghost use Rattle.page_base.specs.declared.value.Value.{Value};
+ghost use Rattle.row_fmt.specs.Rows.{FitsColumns};
 ghost use Rattle.plain_model.specs.Tables.{Table, key_of, with_row};
-ghost use Rattle.table_pages.specs.Rows.{row_of};
+ghost use Rattle.table_pages.specs.Rows.{row_of, HoldsFitting};
 ghost use Rattle.table_pages.specs.Carried.{Holds};
 
 use crate::StoredTable;
-use crate::key::{key_of, same_key};
+use crate::key::key_of;
 use crate::reader::Reader;
-use crate::row::read_row;
-use page_base::{Column, Columns, Image, Name, NoMemory, Row};
+use page_base::{Columns, Image, Name, NoMemory, Row};
 use page_fmt::{slot, slots};
+use row_fmt::{RowRefusal, decode};
 use std::alloc::Global;
 
 /// Whether the page holds no table. Takes no memory.
@@ -46,24 +47,46 @@ pub fn columns(alloc: Global, image: &Image) -> Result<Columns, NoMemory>
     }
 }
 
+// The row that bytes are, or none.
+pub(crate) fn read_row(
+    alloc: Global,
+    cols: &Columns,
+    bytes: &[u8],
+) -> Result<Option<Row>, NoMemory>
+    requires { length bytes.now < 4294967295 }
+    ensures row { IfOk result (λ read. (row : List Value) → row_of cols.now bytes.now ≡ Some row → read ≡ Some row) }
+    ensures fits { IfOk result (λ read. IfSome read (FitsColumns cols.now)) }
+{
+    match decode(alloc, bytes, cols) {
+        Ok(row) => Ok(Some(row)),
+        Err(RowRefusal::Form { .. }) => Ok(None),
+        Err(RowRefusal::Memory) => Err(NoMemory),
+    }
+}
+
 // Puts the row of a slot into the table, unless the slot is empty.
 fn take_row(alloc: Global, table: &mut StoredTable, bytes: &[u8]) -> Result<(), NoMemory>
+    requires { length bytes.now < 4294967295 }
     ensures empty { OnOk result (bytes.now ≡ [] → table.new ≡ table.old) }
     ensures row { OnOk result ((row : List Value) → bytes.now ≢ [] → row_of table.old.cols bytes.now ≡ Some row → table.new ≡ with_row row table.old) }
     ensures cols { OnOk result (table.new.cols ≡ table.old.cols) }
+    ensures fits { OnOk result (HoldsFitting table.old → HoldsFitting table.new) }
 {
     if bytes.is_empty() {
         return Ok(());
     }
-    let row = read_row(alloc, table.cols(), bytes)?;
-    let key = key_of(alloc, table.cols(), &row)?;
+    let Some(row) = read_row(alloc, table.cols(), bytes)? else {
+        return Ok(());
+    };
+    let key = key_of(alloc, table.cols().as_slice(), &row)?;
     table.put(key, row)
 }
 
-/// The page's table; any where the page holds none.
+/// The page's table; any where the page holds none. Its columns may hold each of its rows.
 pub fn read_table(alloc: Global, image: &Image) -> Result<StoredTable, NoMemory>
     requires { IsPage image.now }
-    ensures { IfOk result (λ table. (held : List ℕ) (t : Table) → Holds image.now held t → table ≡ t) }
+    ensures table { IfOk result (λ table. (held : List ℕ) (t : Table) → Holds image.now held t → table ≡ t) }
+    ensures fits { IfOk result HoldsFitting }
 {
     let mut table = StoredTable::new(alloc, columns(alloc, image)?);
     for i in 1..slots(image) {
@@ -72,26 +95,13 @@ pub fn read_table(alloc: Global, image: &Image) -> Result<StoredTable, NoMemory>
     Ok(table)
 }
 
-// Whether the slot is a row with the key of this row.
-fn is_keyed(cols: &[Column], bytes: &[u8], row: &Row) -> bool
-    ensures full { IsTrue result → bytes.now ≢ [] }
-    ensures same { (read : List Value) → bytes.now ≢ [] → row_of cols.now bytes.now ≡ Some read →
-        (IsTrue result ↔ (key_of cols.now read ≡ key_of cols.now row.now)) }
-{
-    !bytes.is_empty() && same_key(cols, bytes, row.as_slice())
-}
-
 /// Whether the page's table has a row with the key of this row; any answer where the page holds none, or a table of
-/// other columns. Takes no memory.
-pub fn has_key(image: &Image, cols: &Columns, row: &Row) -> bool
+/// other columns.
+pub fn has_key(alloc: Global, image: &Image, cols: &Columns, row: &Row) -> Result<bool, NoMemory>
     requires { IsPage image.now }
-    ensures { (held : List ℕ) (t : Table) → Holds image.now held t → cols.now ≡ t.cols → result ≡ finite.contains_key t.rows (key_of t.cols row.now) }
+    ensures { IfOk result (λ there. (held : List ℕ) (t : Table) → Holds image.now held t → cols.now ≡ t.cols → there ≡ finite.contains_key t.rows (key_of t.cols row.now)) }
 {
-    let cols = cols.as_slice();
-    for i in 1..slots(image) {
-        if is_keyed(cols, slot(image, i), row) {
-            return true;
-        }
-    }
-    false
+    let table = read_table(alloc, image)?;
+    let key = key_of(alloc, cols.as_slice(), row)?;
+    Ok(table.has_key(&key))
 }

@@ -5,7 +5,7 @@ ghost use Rattle.std.specs.FinMap as finite;
 ghost use Rattle.plain_model.specs.Tables.{IsTable, with_row, key_of, rows_of};
 ghost use Rattle.plain_model.specs.Meaning.{shown, shown_rows};
 
-use page_base::{Column, Columns, NoMemory, Row, RowList, Value};
+use page_base::{Columns, NoMemory, Row, RowList, Value};
 use std::alloc::Global;
 use std::collections::BTreeMap;
 use std::marker::Model;
@@ -44,10 +44,10 @@ impl StoredTable {
     }
 
     /// Its columns.
-    pub fn cols(&self) -> &[Column]
+    pub fn cols(&self) -> &Columns
         ensures { result.now ≡ self.now.cols }
     {
-        self.cols.as_slice()
+        &self.cols
     }
 
     /// How many rows there are.
@@ -94,6 +94,17 @@ impl StoredTable {
         Ok((cols, list))
     }
 
+    /// Its rows, in ascending order of keys.
+    pub fn rows(&self, alloc: Global) -> Result<RowList, NoMemory>
+        ensures { IfOk result (λ rows. rows ≡ rows_of self.now) }
+    {
+        let mut list = RowList::new(alloc);
+        for row in self.rows.values() {
+            list.push(copy_row(alloc, row)?)?;
+        }
+        Ok(list)
+    }
+
     /// Its rows as a reply shows them, in ascending order of keys.
     pub fn shown_rows(&self, alloc: Global) -> Result<RowList, NoMemory>
         ensures { IfOk result (λ rows. rows ≡ shown_rows (rows_of self.now)) }
@@ -104,6 +115,16 @@ impl StoredTable {
         }
         Ok(list)
     }
+}
+
+fn copy_row(alloc: Global, row: &Row) -> Result<Row, NoMemory>
+    ensures { IfOk result (λ r. r ≡ row.now) }
+{
+    let mut values = Row::new(alloc);
+    for value in row.as_slice() {
+        values.push(value.copy(alloc)?)?;
+    }
+    Ok(values)
 }
 
 // The value as a reply shows it: every number is a `Big`.

@@ -1,24 +1,19 @@
-//! Headers and rows byte for byte, a page read again, and plans up to a full page and the last page.
+//! Headers byte for byte, a page read again, and plans up to a full page and the last page.
 
 ghost use Rattle.std.specs.Prelude.{◌≡◌, ◌<◌, ◌≤◌, ◌∷◌, [], true, IfOk, length};
-ghost use Rattle.std.specs.List.{list_all};
 ghost use Rattle.plain_model.specs.Sound.{is_definition};
-ghost use Rattle.plain_model.specs.Next.{is_small_number};
 ghost use Rattle.page_fmt.specs.Content.{IsPage};
 ghost use Rattle.snap_pages.specs.Shown.{counts};
 ghost use Rattle.table_pages.specs.Carried.{data_pages};
 ghost use Rattle.table_pages.specs.Trial.{IsReady, IsFirstFront};
 
 use crate::header::header;
-use crate::row::row_bytes;
 use crate::{
-    Edit, columns, find, has_key, is_blank, is_named, place, plan_create, plan_insert, plan_update,
-    read_table,
+    Edit, columns, find, has_key, is_blank, is_named, place, plan_change, plan_create, read_table,
 };
 use mem_dev::MemPages;
-use page_base::{ColType, Column, Columns, Image, Name, NoMemory, PageId, Row, Value};
+use page_base::{Bytes, ColType, Column, Columns, Image, Name, NoMemory, PageId, Row, RowList, Value};
 use page_fmt::{check, put_slot};
-use plain_model::{Expr, SetItem, SetList};
 use snap_pages::SnapPages;
 use std::alloc::Global;
 use std::test::Fail;
@@ -65,26 +60,6 @@ fn headers_are_spelled(rt: HostRuntime) -> Result<(), Fail> {
         \x01s\x03\0\0\0\x2c\x01\0\0\x04\0\0\0";
     let bytes = header(rt.alloc(), &name(b"shp")?, cols.as_slice())?;
     assert_eq!(rt; bytes.as_slice(), wanted.as_slice());
-    Ok(())
-}
-
-#[test]
-fn rows_are_spelled(rt: HostRuntime) -> Result<(), Fail> {
-    let bytes = row_bytes(rt.alloc(), ints(rt.alloc(), &[1, -2])?.as_slice())?;
-    assert_eq!(rt;
-        bytes.as_slice(),
-        b"\0\x01\0\0\0\xfe\xff\xff\xff".as_slice()
-    );
-    let bytes = row_bytes(
-        rt.alloc(),
-        ints(rt.alloc(), &[i32::MIN, i32::MAX])?.as_slice(),
-    )?;
-    assert_eq!(rt;
-        bytes.as_slice(),
-        b"\0\0\0\0\x80\xff\xff\xff\x7f".as_slice()
-    );
-    let bytes = row_bytes(rt.alloc(), ints(rt.alloc(), &[0; 9])?.as_slice())?;
-    assert_eq!(rt; bytes.as_slice(), [0u8; 38].as_slice());
     Ok(())
 }
 
@@ -156,7 +131,7 @@ fn keys_are_found(rt: HostRuntime) -> Result<(), Fail> {
     let cols = columns(rt.alloc(), &image)?;
     for (key, there) in [(1, true), (2, true), (3, false), (-10, false)] {
         assert_eq!(rt;
-            has_key(&image, &cols, &ints(rt.alloc(), &[key, 5])?),
+            has_key(rt.alloc(), &image, &cols, &ints(rt.alloc(), &[key, 5])?)?,
             there
         );
     }
@@ -197,19 +172,6 @@ fn create(alloc: Global, pages: &mut Pages, name: &Name, cols: &Columns) -> Resu
     }
 }
 
-fn insert(alloc: Global, pages: &mut Pages, i: u32, row: &Row) -> Result<bool, NoMemory>
-    requires ready { IsReady pages.old }
-    requires there { i < data_pages pages.old }
-    requires some { 0 < length row.now }
-    ensures ready { IsReady pages.new }
-    ensures counts { counts pages.new ≡ counts pages.old }
-{
-    match plan_insert(alloc, pages, i, row)? {
-        Some(edit) => Ok(carry(pages, &edit)),
-        None => Ok(false),
-    }
-}
-
 #[test]
 fn tables_fill_the_pages(rt: HostRuntime) -> Result<(), Fail> {
     let alloc = rt.alloc();
@@ -233,72 +195,6 @@ fn tables_fill_the_pages(rt: HostRuntime) -> Result<(), Fail> {
     Ok(())
 }
 
-// Inserts so many rows, with 6 and 7 in turn; whether all of them went in.
-fn insert_rows(alloc: Global, pages: &mut Pages, count: i32) -> Result<bool, NoMemory>
-    requires ready { IsReady pages.old }
-    requires there { 0 < data_pages pages.old }
-    ensures ready { IsReady pages.new }
-    ensures counts { counts pages.new ≡ counts pages.old }
-{
-    for k in 0..count {
-        if !insert(alloc, pages, 0, &ints(alloc, &[k, 6 + k % 2])?)? {
-            return Ok(false);
-        }
-    }
-    Ok(true)
-}
-
-// Two pages, the second with a table of so many rows; whether all of them went in.
-fn rows_on_a_page(alloc: Global, count: i32) -> Result<(Pages, bool), Fail>
-    ensures ready { IfOk result (λ made. IsReady made.0) }
-    ensures counts { IfOk result (λ made. counts made.0 ≡ 2 ∷ []) }
-{
-    let mut pages = new_pages(alloc, 2)?;
-    let made = create(alloc, &mut pages, &name(b"t")?, &two_columns(alloc)?)?;
-    let all = insert_rows(alloc, &mut pages, count)?;
-    Ok((pages, made && all))
-}
-
-#[test]
-fn rows_fill_a_page(rt: HostRuntime) -> Result<(), Fail> {
-    // 32 bytes for the header, 9 for each of the rows, and 2 for the offset of each slot: 96 + 34 + 732 * 11 is 8182
-    let (mut pages, all) = rows_on_a_page(rt.alloc(), 732)?;
-    assert!(rt; all);
-    let row = ints(rt.alloc(), &[732, 7])?;
-    assert!(rt; !insert(rt.alloc(), &mut pages, 0, &row)?);
-    Ok(())
-}
-
-// SET v = 7
-fn set_sevens(alloc: Global) -> Result<SetList, Fail>
-    ensures { IfOk result (λ sets. list_all (λ s. is_small_number s.to) sets ≡ true) }
-{
-    let mut sets = SetList::new(alloc);
-    sets.push(SetItem {
-        col: name(b"v")?,
-        to: Expr::Number(7),
-    })?;
-    Ok(sets)
-}
-
-#[test]
-fn only_rows_that_change_are_edited(rt: HostRuntime) -> Result<(), Fail> {
-    let (pages, all) = rows_on_a_page(rt.alloc(), 8)?;
-    assert!(rt; all);
-    let cols = two_columns(rt.alloc())?;
-    let edits = plan_update(rt.alloc(), &pages, 0, &cols, &set_sevens(rt.alloc())?)?;
-    assert_eq!(rt; edits.len(), 4);
-    for (edit, k) in edits.as_slice().iter().zip([0u8, 2, 4, 6]) {
-        assert_eq!(rt; edit.page, PageId { file: 0, page: 1 });
-        assert_eq!(rt; edit.slot, u16::from(k) + 1);
-        assert_eq!(rt;
-            edit.bytes.as_slice(),
-            [0, k, 0, 0, 0, 7, 0, 0, 0].as_slice()
-        );
-    }
-    Ok(())
-}
-
 // Does all edits; whether each was done.
 fn carry_all(pages: &mut Pages, edits: &[Edit]) -> bool
     requires ready { IsReady pages.old }
@@ -316,18 +212,123 @@ fn carry_all(pages: &mut Pages, edits: &[Edit]) -> bool
     true
 }
 
+// Puts rows into the first table and cuts keys from it; whether there was room.
+fn change(
+    alloc: Global,
+    pages: &mut Pages,
+    cols: &Columns,
+    put: &RowList,
+    cut: &RowList,
+) -> Result<bool, NoMemory>
+    requires ready { IsReady pages.old }
+    requires there { 0 < data_pages pages.old }
+    ensures ready { IsReady pages.new }
+    ensures counts { counts pages.new ≡ counts pages.old }
+{
+    match plan_change(alloc, pages, 0, cols, put, cut)? {
+        Some(edits) => Ok(carry_all(pages, edits.as_slice())),
+        None => Ok(false),
+    }
+}
+
+// So many rows, with the keys from 0 on.
+fn rows_up_to(alloc: Global, count: i32, value: i32) -> Result<RowList, NoMemory> {
+    let mut rows = RowList::new(alloc);
+    for k in 0..count {
+        rows.push(ints(alloc, &[k, if k % 2 == 0 { value } else { 7 }])?)?;
+    }
+    Ok(rows)
+}
+
+// Two pages, the second with a table of so many rows, of 6 and 7 in turn; whether all of them went in.
+fn rows_on_a_page(alloc: Global, count: i32) -> Result<(Pages, bool), Fail>
+    ensures ready { IfOk result (λ made. IsReady made.0) }
+    ensures counts { IfOk result (λ made. counts made.0 ≡ 2 ∷ []) }
+{
+    let cols = two_columns(alloc)?;
+    let mut pages = new_pages(alloc, 2)?;
+    let made = create(alloc, &mut pages, &name(b"t")?, &cols)?;
+    let rows = rows_up_to(alloc, count, 6)?;
+    let all = change(alloc, &mut pages, &cols, &rows, &RowList::new(alloc))?;
+    Ok((pages, made && all))
+}
+
 #[test]
-fn updated_rows_are_read(rt: HostRuntime) -> Result<(), Fail> {
+fn rows_fill_a_page(rt: HostRuntime) -> Result<(), Fail> {
+    // 32 bytes for the header, 9 for each of the rows, and 2 for the offset of each slot: 96 + 34 + 732 * 11 is 8182
+    let (_, all) = rows_on_a_page(rt.alloc(), 732)?;
+    assert!(rt; all);
+    let (_, all) = rows_on_a_page(rt.alloc(), 733)?;
+    assert!(rt; !all);
+    Ok(())
+}
+
+#[test]
+fn only_rows_that_change_are_edited(rt: HostRuntime) -> Result<(), Fail> {
     let (mut pages, all) = rows_on_a_page(rt.alloc(), 8)?;
+    assert!(rt; all);
     let cols = two_columns(rt.alloc())?;
-    let sets = set_sevens(rt.alloc())?;
-    let edits = plan_update(rt.alloc(), &pages, 0, &cols, &sets)?;
-    assert!(rt; all && carry_all(&mut pages, edits.as_slice()));
-    assert!(rt; plan_update(rt.alloc(), &pages, 0, &cols, &sets)?.is_empty());
-    let rows = read_table(rt.alloc(), pages.image(place(0)))?.shown_rows(rt.alloc())?;
+    let none = RowList::new(rt.alloc());
+    let rows = rows_up_to(rt.alloc(), 8, 7)?;
+    let edits = plan_change(rt.alloc(), &pages, 0, &cols, &rows, &none)?.ok_or("no room")?;
+    assert_eq!(rt; edits.len(), 4);
+    for (edit, k) in edits.as_slice().iter().zip([0u8, 2, 4, 6]) {
+        assert_eq!(rt; edit.page, PageId { file: 0, page: 1 });
+        assert_eq!(rt; edit.slot, u16::from(k) + 1);
+        assert_eq!(rt;
+            edit.bytes.as_slice(),
+            [0, k, 0, 0, 0, 7, 0, 0, 0].as_slice()
+        );
+    }
+    assert!(rt; carry_all(&mut pages, edits.as_slice()));
+    let rows = read_table(rt.alloc(), pages.image(place(0)))?.rows(rt.alloc())?;
     assert_eq!(rt; rows.len(), 8);
-    for (row, k) in rows.as_slice().iter().zip(0i64..8) {
-        assert_eq!(rt; row, &bigs(rt.alloc(), &[k, 7])?);
+    for (row, k) in rows.as_slice().iter().zip(0i32..8) {
+        assert_eq!(rt; row, &ints(rt.alloc(), &[k, 7])?);
+    }
+    Ok(())
+}
+
+// A key `id` and a text `s` of at most 10 bytes, which may be NULL.
+fn text_columns(alloc: Global) -> Result<Columns, Fail>
+    ensures { IfOk result (λ cols. is_definition cols ≡ true) }
+{
+    let mut cols = Columns::new(alloc);
+    cols.push(column(name(b"id")?, ColType::Int, false, 1))?;
+    cols.push(column(name(b"s")?, ColType::Text { max: 10 }, true, 0))?;
+    Ok(cols)
+}
+
+fn text_rows(alloc: Global, texts: &[(i32, &[u8])]) -> Result<RowList, NoMemory> {
+    let mut rows = RowList::new(alloc);
+    for (key, text) in texts {
+        let mut row = ints(alloc, &[*key])?;
+        row.push(Value::Text(Bytes::from(Vec::from_slice(alloc, text)?)))?;
+        rows.push(row)?;
+    }
+    Ok(rows)
+}
+
+#[test]
+fn edits_that_grow_a_slot_come_last(rt: HostRuntime) -> Result<(), Fail> {
+    let alloc = rt.alloc();
+    let cols = text_columns(alloc)?;
+    let mut pages = new_pages(alloc, 2)?;
+    assert!(rt; create(alloc, &mut pages, &name(b"t")?, &cols)?);
+    let rows = text_rows(alloc, &[(1, b"aaaa"), (2, b"b"), (3, b"c")])?;
+    assert!(rt; change(alloc, &mut pages, &cols, &rows, &RowList::new(alloc))?);
+    // key 1 leaves slot 1 to key 4, whose row is shorter; key 2 grows in slot 2, and key 3 stays
+    let rows = text_rows(alloc, &[(2, b"bbbb"), (4, b"d"), (3, b"c")])?;
+    let mut cut = RowList::new(alloc);
+    cut.push(ints(alloc, &[1])?)?;
+    let edits = plan_change(alloc, &pages, 0, &cols, &rows, &cut)?.ok_or("no room")?;
+    assert_eq!(rt; edits.len(), 2);
+    for (edit, (slot, bytes)) in edits.as_slice().iter().zip([
+        (1u16, b"\0\x04\0\0\0\x01\0d".as_slice()),
+        (2, b"\0\x02\0\0\0\x04\0bbbb"),
+    ]) {
+        assert_eq!(rt; edit.slot, slot);
+        assert_eq!(rt; edit.bytes.as_slice(), bytes);
     }
     Ok(())
 }

@@ -26,7 +26,7 @@ returns-then-is_empty g c = λ opening seen stmt setting b rows tab.
     let found = ap (finite.get seen.source) tab ∙ f.2 in
     let ints = setting.ints stmt.table f.0 found in
     is_same opening opening.source c.args.pages.now seen (Insert stmt) _ _ (c.only-then-is_empty.ensures ∙ ap (λ r. record { answer = UnderAll S r; edits = [] }) c.refused-then-is_empty.ensures)
-    (insert_narrow opening c.args.pages.now seen setting stmt c.args.row.now f.0 b rows found (too_narrow c.args.row.now (length f.0.cols) (c.is_empty.ensures.0 c.if-is_empty.true) ints.1))
+    (insert_narrow opening c.args.pages.now seen setting stmt c.args.row f.0 b rows found (too_narrow c.args.row (length f.0.cols) (c.is_empty.ensures.0 c.if-is_empty.true) ints.1))
 
 pub returns : goal.returns
 returns g c = IfOk-weaker c.insert_row.result _ _ (λ d h opening seen stmt setting b rows tab.

@@ -1,7 +1,7 @@
 use Rattle.std.proofs.Common.{◌≡◌, map, take, true}
 use Rattle.std.specs.List.{list_all}
 use Rattle.plain_model.specs.Meaning.{literal}
-use Rattle.table_pages.specs.Rows.{is_int_value}
+use Rattle.engine_core.specs.Ints.{is_int_value}
 use Rattle.engine_core.proofs.literals.literals.Given as goal
 
 abbrev pub invariant-loop-entry : goal.invariant-loop-entry
