@@ -169,17 +169,19 @@ module _ (cols : List Column) where
           let here : slot_at (content new) i ≡ bytes = ap (λ (s : List (List ℕ)). slot_at s i) left ∙ slot_at-edited_same (content image) i bytes in
           let others : (j : ℕ) → j ≢ i → slot_at (content new) j ≡ slot_at (content image) j = λ j ne. ap (λ (s : List (List ℕ)). slot_at s j) left ∙ slot_at-edited_other (content image) i j bytes ne in
           let is : row_of cols (slot_at (content new) i) ≡ Some row = ap (row_of cols) here ∙ row_is_read cols bytes row spelled in
-          let some_bytes : slot_at (content new) i ≢ [] = λ f. full (sym here ∙ f) in
-          (record {
-            at = i;
-            goes = goes;
-            room = subst (λ (bs : List ℕ). used (edited (content image) i bs) ≤ 8192) same room;
-            is = left ∙ ap (edited (content image) i) same;
-          }, record {
-            some = some;
-            rows_are = rows_put row i (slot_at (content new)) goes high some_bytes is others;
-            index_is = index_put cols (content image) (content new) index i others h row (goes_low row i goes) some_bytes is (goes_free row i goes);
-          })
+          let some_bytes : slot_at (content new) i ≢ [] = λ f. full (sym here ∙ f) in (
+            record {
+              at = i;
+              goes = goes;
+              room = subst (λ (bs : List ℕ). used (edited (content image) i bs) ≤ 8192) same room;
+              is = left ∙ ap (edited (content image) i) same;
+            },
+            record {
+              some = some;
+              rows_are = rows_put row i (slot_at (content new)) goes high some_bytes is others;
+              index_is = index_put cols (content image) (content new) index i others h row (goes_low row i goes) some_bytes is (goes_free row i goes);
+            },
+          )
 
     -- slot 0 stays where a row is put
     pub put_front : (row : List Value) (left : List (List ℕ)) → PutsRow cols (content image) row left → slot_at left 0 ≡ slot_at (content image) 0
@@ -222,12 +224,14 @@ module _ (cols : List Column) where
   pub cut_end : (cut : List (List Value)) (start : List ℕ) (first : Rows) (page : List ℕ) (index : Index) (k : ℕ) → length cut ≤ k → CutSoFar cut start first page index k → IsDraft cols page index (cut_rows cut first) × IsCut cols cut (content start) (content page)
   cut_end cut start first page index k past so_far =
       let none : drop k cut ≡ [] = drop_all k cut past in
-      let same : so_far.now ≡ cut_rows cut first = ap (λ (keys : List (List Value)). cut_rows keys so_far.now) (sym none) ∙ so_far.ends in
-      (subst (IsDraft cols page index) same so_far.draft, record {
-        back = λ put end d. so_far.back put end (subst (λ (keys : List (List Value)). Drafts cols keys put (content page) end) (sym none) d);
-        forth = λ put end d. subst (λ (keys : List (List Value)). Drafts cols keys put (content page) end) none (so_far.forth put end d);
-        front = so_far.front;
-      })
+      let same : so_far.now ≡ cut_rows cut first = ap (λ (keys : List (List Value)). cut_rows keys so_far.now) (sym none) ∙ so_far.ends in (
+        subst (IsDraft cols page index) same so_far.draft,
+        record {
+          back = λ put end d. so_far.back put end (subst (λ (keys : List (List Value)). Drafts cols keys put (content page) end) (sym none) d);
+          forth = λ put end d. subst (λ (keys : List (List Value)). Drafts cols keys put (content page) end) none (so_far.forth put end d);
+          front = so_far.front;
+        },
+      )
 
   -- ALL ROWS ARE PUT
 

@@ -48,11 +48,7 @@ pub fn columns(alloc: Global, image: &Image) -> Result<Columns, NoMemory>
 }
 
 // The row that bytes are, or none.
-pub(crate) fn read_row(
-    alloc: Global,
-    cols: &Columns,
-    bytes: &[u8],
-) -> Result<Option<Row>, NoMemory>
+pub(crate) fn read_row(alloc: Global, cols: &Columns, bytes: &[u8]) -> Result<Option<Row>, NoMemory>
     requires { length bytes.now < 4294967295 }
     ensures row { IfOk result (λ read. (row : List Value) → row_of cols.now bytes.now ≡ Some row → read ≡ Some row) }
     ensures fits { IfOk result (λ read. IfSome read (FitsColumns cols.now)) }

@@ -12,7 +12,9 @@ use crate::{
     Edit, columns, find, has_key, is_blank, is_named, place, plan_change, plan_create, read_table,
 };
 use mem_dev::MemPages;
-use page_base::{Bytes, ColType, Column, Columns, Image, Name, NoMemory, PageId, Row, RowList, Value};
+use page_base::{
+    Bytes, ColType, Column, Columns, Image, Name, NoMemory, PageId, Row, RowList, Value,
+};
 use page_fmt::{check, put_slot};
 use snap_pages::SnapPages;
 use std::alloc::Global;

@@ -1,4 +1,3 @@
-
 use Rattle.page_fmt.specs.Content.{content, IsPage}
 use Rattle.plain_model.specs.Tables.{Rows}
 use Rattle.table_pages.specs.Drafting.{IsDraft, AreFull}
