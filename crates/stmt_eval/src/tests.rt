@@ -120,15 +120,15 @@ fn values(alloc: Global, (id, v): Pair) -> Result<ExprList, NoMemory> {
 }
 
 // INSERT INTO t VALUES first, second
-fn insert_of(alloc: Global, first: Pair, second: Pair) -> Result<Stmt, Fail> {
+fn insert_of(alloc: Global, first: Pair, second: Pair) -> Result<InsertStmt, Fail> {
     let mut rows = ExprRows::new(alloc);
     rows.push(values(alloc, first)?)?;
     rows.push(values(alloc, second)?)?;
-    Ok(Stmt::Insert(InsertStmt {
+    Ok(InsertStmt {
         table: Name::read(b"t")?,
         cols: Names::new(alloc),
         rows,
-    }))
+    })
 }
 
 const INSERTS: [(Pair, Pair, Told); 6] = [
@@ -156,25 +156,25 @@ fn inserts(rt: HostRuntime) -> Result<(), Fail> {
     let cols = columns(alloc)?;
     let rows = table(alloc, &[(1, Some(10)), (2, Some(20))])?;
     for (first, second, want) in INSERTS {
-        let stmt = insert_of(alloc, first, second)?;
+        let stmt = Stmt::Insert(insert_of(alloc, first, second)?);
         assert!(rt; answer_to(&verdict_of(alloc, &stmt, &cols, &rows)?) == want);
     }
     Ok(())
 }
 
 // INSERT INTO t (name) VALUES (n)
-fn insert_into(alloc: Global, name: &[u8], n: i64) -> Result<Stmt, Fail> {
+fn insert_into(alloc: Global, name: &[u8], n: i64) -> Result<InsertStmt, Fail> {
     let mut cols = Names::new(alloc);
     cols.push(Name::read(name)?)?;
     let mut exprs = ExprList::new(alloc);
     exprs.push(Expr::Number(n))?;
     let mut rows = ExprRows::new(alloc);
     rows.push(exprs)?;
-    Ok(Stmt::Insert(InsertStmt {
+    Ok(InsertStmt {
         table: Name::read(b"t")?,
         cols,
         rows,
-    }))
+    })
 }
 
 #[test]
@@ -187,7 +187,7 @@ fn columns_of_an_insert(rt: HostRuntime) -> Result<(), Fail> {
         (b"v".as_slice(), Told::Row(515, 1)),
         (b"x".as_slice(), Told::Shape(207)),
     ] {
-        let stmt = insert_into(alloc, name, 7)?;
+        let stmt = Stmt::Insert(insert_into(alloc, name, 7)?);
         assert!(rt; answer_to(&verdict_of(alloc, &stmt, &cols, &rows)?) == want);
     }
     Ok(())
@@ -250,11 +250,11 @@ fn an_update_puts_the_rows_as_they_become(rt: HostRuntime) -> Result<(), Fail> {
 }
 
 // DELETE FROM t WHERE v < n
-fn delete_of(alloc: Global, n: i64) -> Result<Stmt, Fail> {
-    Ok(Stmt::Delete(DeleteStmt {
+fn delete_of(alloc: Global, n: i64) -> Result<DeleteStmt, Fail> {
+    Ok(DeleteStmt {
         table: Name::read(b"t")?,
         filter: Some(compared(alloc, CompareOp::Lt, n)?),
-    }))
+    })
 }
 
 #[test]
@@ -262,7 +262,7 @@ fn a_delete_cuts_the_keys(rt: HostRuntime) -> Result<(), Fail> {
     let alloc = rt.alloc();
     let cols = columns(alloc)?;
     let rows = table(alloc, &[(1, Some(9)), (2, Some(10)), (3, None)])?;
-    let stmt = delete_of(alloc, 10)?;
+    let stmt = Stmt::Delete(delete_of(alloc, 10)?);
     let done = effect_in(verdict_of(alloc, &stmt, &cols, &rows)?).ok_or("refused")?;
     assert!(rt; answer_in(&done.reply) == Told::Count(1));
     assert!(rt; done.cuts.len() == 1);
@@ -399,18 +399,18 @@ fn text(alloc: Global, len: u16) -> Result<Expr, NoMemory> {
 }
 
 // INSERT INTO w VALUES (1, a text of 8,000 bytes, a text of `len` bytes)
-fn wide_insert(alloc: Global, len: u16) -> Result<Stmt, Fail> {
+fn wide_insert(alloc: Global, len: u16) -> Result<InsertStmt, Fail> {
     let mut exprs = ExprList::new(alloc);
     exprs.push(Expr::Number(1))?;
     exprs.push(text(alloc, 8000)?)?;
     exprs.push(text(alloc, len)?)?;
     let mut rows = ExprRows::new(alloc);
     rows.push(exprs)?;
-    Ok(Stmt::Insert(InsertStmt {
+    Ok(InsertStmt {
         table: Name::read(b"w")?,
         cols: Names::new(alloc),
         rows,
-    }))
+    })
 }
 
 #[test]
@@ -424,7 +424,7 @@ fn a_row_has_at_most_8060_bytes(rt: HostRuntime) -> Result<(), Fail> {
         (52, Told::Row(60015, 1)),
         (101, Told::Row(60014, 1)),
     ] {
-        let stmt = wide_insert(alloc, len)?;
+        let stmt = Stmt::Insert(wide_insert(alloc, len)?);
         assert!(rt; answer_to(&verdict_of(alloc, &stmt, &cols, &rows)?) == want);
     }
     Ok(())
