@@ -59,14 +59,18 @@ fn int(number: Option<i32>) -> Value {
     }
 }
 
-// The rows of t.
+fn row(alloc: Global, id: i32, v: Option<i32>) -> Result<Row, NoMemory> {
+    let mut row = Row::new(alloc);
+    row.push(Value::Int(id))?;
+    row.push(int(v))?;
+    Ok(row)
+}
+
+// Rows of t.
 fn table(alloc: Global, pairs: &[(i32, Option<i32>)]) -> Result<RowList, NoMemory> {
     let mut rows = RowList::new(alloc);
     for (id, v) in pairs {
-        let mut row = Row::new(alloc);
-        row.push(Value::Int(*id))?;
-        row.push(int(*v))?;
-        rows.push(row)?;
+        rows.push(row(alloc, *id, *v)?)?;
     }
     Ok(rows)
 }
@@ -78,20 +82,14 @@ fn big(number: Option<i64>) -> Value {
     }
 }
 
-// A row as a reply shows it.
-fn shown(alloc: Global, numbers: &[Option<i64>]) -> Result<Row, NoMemory> {
-    let mut row = Row::new(alloc);
-    for number in numbers {
-        row.push(big(*number))?;
-    }
-    Ok(row)
-}
-
-// Rows as a reply shows them.
-fn shown_rows(alloc: Global, list: &[&[Option<i64>]]) -> Result<RowList, NoMemory> {
+// Rows of two numbers as a reply shows them.
+fn shown(alloc: Global, pairs: &[Pair]) -> Result<RowList, NoMemory> {
     let mut rows = RowList::new(alloc);
-    for numbers in list {
-        rows.push(shown(alloc, numbers)?)?;
+    for (a, b) in pairs {
+        let mut row = Row::new(alloc);
+        row.push(big(*a))?;
+        row.push(big(*b))?;
+        rows.push(row)?;
     }
     Ok(rows)
 }
@@ -113,15 +111,19 @@ fn compared(alloc: Global, op: CompareOp, n: i64) -> Result<Expr, Fail> {
     Ok(Expr::Compare(op, left, Box::new(alloc, Expr::Number(n))?))
 }
 
-// INSERT INTO t VALUES ..
-fn insert_of(alloc: Global, lists: &[Pair]) -> Result<InsertStmt, Fail> {
+// A list of two values.
+fn values(alloc: Global, (id, v): Pair) -> Result<ExprList, NoMemory> {
+    let mut exprs = ExprList::new(alloc);
+    exprs.push(number(id))?;
+    exprs.push(number(v))?;
+    Ok(exprs)
+}
+
+// INSERT INTO t VALUES first, second
+fn insert_of(alloc: Global, first: Pair, second: Pair) -> Result<InsertStmt, Fail> {
     let mut rows = ExprRows::new(alloc);
-    for (id, v) in lists {
-        let mut exprs = ExprList::new(alloc);
-        exprs.push(number(*id))?;
-        exprs.push(number(*v))?;
-        rows.push(exprs)?;
-    }
+    rows.push(values(alloc, first)?)?;
+    rows.push(values(alloc, second)?)?;
     Ok(InsertStmt {
         table: Name::read(b"t")?,
         cols: Names::new(alloc),
@@ -129,22 +131,23 @@ fn insert_of(alloc: Global, lists: &[Pair]) -> Result<InsertStmt, Fail> {
     })
 }
 
-const INSERTS: [(&[Pair], Told); 7] = [
-    (&[(Some(3), None), (Some(-1), Some(5))], Told::Count(2)),
-    (
-        &[(Some(3), Some(1)), (Some(3), Some(2))],
-        Told::Row(2627, 2),
-    ),
-    (
-        &[(Some(3), Some(1)), (Some(2), Some(2))],
-        Told::Row(2627, 2),
-    ),
-    (&[(None, Some(1))], Told::Row(515, 1)),
+const INSERTS: [(Pair, Pair, Told); 6] = [
+    ((Some(3), None), (Some(-1), Some(5)), Told::Count(2)),
+    ((Some(3), Some(1)), (Some(3), Some(2)), Told::Row(2627, 2)),
+    ((Some(3), Some(1)), (None, Some(2)), Told::Row(515, 2)),
     // a key that is there, and a NULL behind it
-    (&[(Some(1), Some(1)), (None, Some(1))], Told::Row(2627, 1)),
-    (&[(Some(3), Some(2_147_483_648))], Told::Row(8115, 1)),
+    ((Some(1), Some(1)), (None, Some(1)), Told::Row(2627, 1)),
+    (
+        (Some(3), Some(2_147_483_648)),
+        (Some(4), None),
+        Told::Row(8115, 1),
+    ),
     // an overflow beside a NULL
-    (&[(None, Some(2_147_483_648))], Told::Row(8115, 1)),
+    (
+        (None, Some(2_147_483_648)),
+        (Some(4), None),
+        Told::Row(8115, 1),
+    ),
 ];
 
 #[test]
@@ -152,19 +155,19 @@ fn inserts(rt: HostRuntime) -> Result<(), Fail> {
     let alloc = rt.alloc();
     let cols = columns(alloc)?;
     let rows = table(alloc, &[(1, Some(10)), (2, Some(20))])?;
-    for (lists, want) in INSERTS {
-        let stmt = insert_of(alloc, lists)?;
-        assert!(rt; answer_to(&verdict_of(alloc, &Stmt::Insert(stmt), &cols, &rows)?) == want);
+    for (first, second, want) in INSERTS {
+        let stmt = Stmt::Insert(insert_of(alloc, first, second)?);
+        assert!(rt; answer_to(&verdict_of(alloc, &stmt, &cols, &rows)?) == want);
     }
     Ok(())
 }
 
-// An INSERT of one row that gives values for these columns.
-fn insert_into(alloc: Global, names: &[&[u8]], exprs: ExprList) -> Result<InsertStmt, Fail> {
+// INSERT INTO t (name) VALUES (n)
+fn insert_into(alloc: Global, name: &[u8], n: i64) -> Result<InsertStmt, Fail> {
     let mut cols = Names::new(alloc);
-    for name in names {
-        cols.push(Name::read(name)?)?;
-    }
+    cols.push(Name::read(name)?)?;
+    let mut exprs = ExprList::new(alloc);
+    exprs.push(Expr::Number(n))?;
     let mut rows = ExprRows::new(alloc);
     rows.push(exprs)?;
     Ok(InsertStmt {
@@ -174,30 +177,18 @@ fn insert_into(alloc: Global, names: &[&[u8]], exprs: ExprList) -> Result<Insert
     })
 }
 
-// One number.
-fn one(alloc: Global, n: i64) -> Result<ExprList, NoMemory> {
-    let mut exprs = ExprList::new(alloc);
-    exprs.push(Expr::Number(n))?;
-    Ok(exprs)
-}
-
-const INTO: [(&[&[u8]], Told); 5] = [
-    (&[b"id"], Told::Count(1)),
-    (&[b"v"], Told::Row(515, 1)),
-    (&[b"x"], Told::Shape(207)),
-    (&[b"id", b"v"], Told::Shape(60013)),
-    // an unknown column in a list of the wrong length
-    (&[b"id", b"x"], Told::Shape(207)),
-];
-
 #[test]
 fn columns_of_an_insert(rt: HostRuntime) -> Result<(), Fail> {
     let alloc = rt.alloc();
     let cols = columns(alloc)?;
-    let rows = table(alloc, &[])?;
-    for (names, want) in INTO {
-        let stmt = insert_into(alloc, names, one(alloc, 7)?)?;
-        assert!(rt; answer_to(&verdict_of(alloc, &Stmt::Insert(stmt), &cols, &rows)?) == want);
+    let rows = RowList::new(alloc);
+    for (name, want) in [
+        (b"id".as_slice(), Told::Count(1)),
+        (b"v".as_slice(), Told::Row(515, 1)),
+        (b"x".as_slice(), Told::Shape(207)),
+    ] {
+        let stmt = Stmt::Insert(insert_into(alloc, name, 7)?);
+        assert!(rt; answer_to(&verdict_of(alloc, &stmt, &cols, &rows)?) == want);
     }
     Ok(())
 }
@@ -259,11 +250,11 @@ fn an_update_puts_the_rows_as_they_become(rt: HostRuntime) -> Result<(), Fail> {
 }
 
 // DELETE FROM t WHERE v < n
-fn delete_of(alloc: Global, n: i64) -> Result<Stmt, Fail> {
-    Ok(Stmt::Delete(DeleteStmt {
+fn delete_of(alloc: Global, n: i64) -> Result<DeleteStmt, Fail> {
+    Ok(DeleteStmt {
         table: Name::read(b"t")?,
         filter: Some(compared(alloc, CompareOp::Lt, n)?),
-    }))
+    })
 }
 
 #[test]
@@ -271,7 +262,7 @@ fn a_delete_cuts_the_keys(rt: HostRuntime) -> Result<(), Fail> {
     let alloc = rt.alloc();
     let cols = columns(alloc)?;
     let rows = table(alloc, &[(1, Some(9)), (2, Some(10)), (3, None)])?;
-    let stmt = delete_of(alloc, 10)?;
+    let stmt = Stmt::Delete(delete_of(alloc, 10)?);
     let done = effect_in(verdict_of(alloc, &stmt, &cols, &rows)?).ok_or("refused")?;
     assert!(rt; answer_in(&done.reply) == Told::Count(1));
     assert!(rt; done.cuts.len() == 1);
@@ -303,17 +294,15 @@ fn a_filter_that_is_unknown_keeps_nothing(rt: HostRuntime) -> Result<(), Fail> {
         alloc,
         &[(-1, Some(5)), (1, Some(10)), (2, Some(20)), (3, None)],
     )?;
-    let mut items = ExprList::new(alloc);
-    items.push(column(b"id")?)?;
     let above = Box::new(alloc, compared(alloc, CompareOp::Gt, 10)?)?;
     let stmt = SelectStmt {
         table: Name::read(b"t")?,
-        items: Items::Exprs(items),
+        items: Items::Star,
         filter: Some(Expr::Not(above)),
         order: OrderList::new(alloc),
     };
     let found = rows_in(alloc, verdict_of(alloc, &Stmt::Select(stmt), &cols, &rows)?);
-    assert!(rt; found == shown_rows(alloc, &[&[Some(-1)], &[Some(1)]])?);
+    assert!(rt; found == shown(alloc, &[(Some(-1), Some(5)), (Some(1), Some(10))])?);
     Ok(())
 }
 
@@ -337,16 +326,13 @@ fn order_by_is_stable_with_null_last_under_desc(rt: HostRuntime) -> Result<(), F
         order,
     };
     let found = rows_in(alloc, verdict_of(alloc, &Stmt::Select(stmt), &cols, &rows)?);
-    let want = shown_rows(
-        alloc,
-        &[
-            &[Some(4), Some(7)],
-            &[Some(1), Some(5)],
-            &[Some(3), Some(5)],
-            &[Some(2), None],
-        ],
-    )?;
-    assert!(rt; found == want);
+    let want = [
+        (Some(4), Some(7)),
+        (Some(1), Some(5)),
+        (Some(3), Some(5)),
+        (Some(2), None),
+    ];
+    assert!(rt; found == shown(alloc, &want)?);
     Ok(())
 }
 
@@ -363,28 +349,24 @@ fn totals(alloc: Global) -> Result<SelectStmt, Fail> {
     })
 }
 
-const TOTALS: [(&[(i32, Option<i32>)], Pair); 3] = [
-    (&[], (Some(0), None)),
-    (&[(1, None), (2, Some(3))], (Some(2), Some(3))),
-    // outside INT on the way, and inside at the end
-    (
-        &[(1, Some(2_147_483_647)), (2, Some(1)), (3, Some(-1))],
-        (Some(3), Some(2_147_483_647)),
-    ),
-];
+// COUNT(*) and SUM(v) over these rows.
+fn summed(alloc: Global, pairs: &[(i32, Option<i32>)]) -> Result<Verdict, Fail> {
+    let stmt = Stmt::Select(totals(alloc)?);
+    let rows = table(alloc, pairs)?;
+    Ok(verdict_of(alloc, &stmt, &columns(alloc)?, &rows)?)
+}
 
 #[test]
 fn sums_are_exact(rt: HostRuntime) -> Result<(), Fail> {
     let alloc = rt.alloc();
-    let cols = columns(alloc)?;
-    let stmt = Stmt::Select(totals(alloc)?);
-    for (pairs, (count, sum)) in TOTALS {
-        let rows = table(alloc, pairs)?;
-        let found = rows_in(alloc, verdict_of(alloc, &stmt, &cols, &rows)?);
-        assert!(rt; found == shown_rows(alloc, &[&[count, sum]])?);
-    }
-    let rows = table(alloc, &[(1, Some(2_147_483_647)), (2, Some(1))])?;
-    assert!(rt; answer_to(&verdict_of(alloc, &stmt, &cols, &rows)?) == Told::Row(8115, 0));
+    let found = rows_in(alloc, summed(alloc, &[])?);
+    assert!(rt; found == shown(alloc, &[(Some(0), None)])?);
+    // outside INT on the way, and inside at the end
+    let pairs = [(1, Some(2_147_483_647)), (2, Some(1)), (3, Some(-1))];
+    let found = rows_in(alloc, summed(alloc, &pairs)?);
+    assert!(rt; found == shown(alloc, &[(Some(3), Some(2_147_483_647))])?);
+    let found = summed(alloc, &[(1, Some(2_147_483_647)), (2, Some(1))])?;
+    assert!(rt; answer_to(&found) == Told::Row(8115, 0));
     Ok(())
 }
 
@@ -407,30 +389,43 @@ fn wide_columns(alloc: Global) -> Result<Columns, Fail> {
     Ok(cols)
 }
 
-fn text(alloc: Global, bytes: &[u8]) -> Result<Expr, Fail> {
-    Ok(Expr::Text(Bytes::from(Vec::from_slice(alloc, bytes)?)))
+// A text of so many bytes.
+fn text(alloc: Global, len: u16) -> Result<Expr, NoMemory> {
+    let mut bytes = Bytes::new(alloc);
+    for _ in 0..len {
+        bytes.push(97)?;
+    }
+    Ok(Expr::Text(bytes))
 }
 
-const PAD: [u8; 8000] = [97; 8000];
-
-const WIDTHS: [(usize, Told); 3] = [
-    (51, Told::Count(1)),
-    (52, Told::Row(60015, 1)),
-    // longer than its column, and so is the row
-    (101, Told::Row(60014, 1)),
-];
+// INSERT INTO w VALUES (1, a text of 8,000 bytes, a text of `len` bytes)
+fn wide_insert(alloc: Global, len: u16) -> Result<InsertStmt, Fail> {
+    let mut exprs = ExprList::new(alloc);
+    exprs.push(Expr::Number(1))?;
+    exprs.push(text(alloc, 8000)?)?;
+    exprs.push(text(alloc, len)?)?;
+    let mut rows = ExprRows::new(alloc);
+    rows.push(exprs)?;
+    Ok(InsertStmt {
+        table: Name::read(b"w")?,
+        cols: Names::new(alloc),
+        rows,
+    })
+}
 
 #[test]
 fn a_row_has_at_most_8060_bytes(rt: HostRuntime) -> Result<(), Fail> {
     let alloc = rt.alloc();
     let cols = wide_columns(alloc)?;
-    let rows = table(alloc, &[])?;
-    for (width, want) in WIDTHS {
-        let mut exprs = one(alloc, 1)?;
-        exprs.push(text(alloc, &PAD)?)?;
-        exprs.push(text(alloc, PAD.get(..width).ok_or("short")?)?)?;
-        let stmt = insert_into(alloc, &[b"id", b"a", b"b"], exprs)?;
-        assert!(rt; answer_to(&verdict_of(alloc, &Stmt::Insert(stmt), &cols, &rows)?) == want);
+    let rows = RowList::new(alloc);
+    // 101 bytes are too many for the column, and for the row
+    for (len, want) in [
+        (51, Told::Count(1)),
+        (52, Told::Row(60015, 1)),
+        (101, Told::Row(60014, 1)),
+    ] {
+        let stmt = Stmt::Insert(wide_insert(alloc, len)?);
+        assert!(rt; answer_to(&verdict_of(alloc, &stmt, &cols, &rows)?) == want);
     }
     Ok(())
 }
