@@ -1,0 +1,7 @@
+pub mod WalkLemmas
+pub mod Exits
+pub mod KeyLemmas
+pub mod OrderLemmas
+pub mod RowsLemmas
+pub mod GatherLemmas
+pub mod VisitLemmas

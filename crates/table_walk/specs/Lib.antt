@@ -1,0 +1,5 @@
+pub mod Addresses
+pub mod Walk
+pub mod Tables
+pub mod Answers
+pub mod Sought

@@ -1,0 +1,20 @@
+//! What all layouts of a table share: the walk over its pages, its rows, and what a plan of edits promises.
+#![tactic(auto)]
+
+mod address;
+mod find;
+mod key;
+mod layout;
+mod refusal;
+mod row_map;
+mod rows;
+mod visit;
+
+pub use address::{names_none, page_at};
+pub use find::{Find, Wants};
+pub use key::{copy_row, key_of};
+pub use layout::{Layout, Walked, walk, wants_of};
+pub use refusal::SeenRefusal;
+pub use row_map::RowMap;
+pub use rows::rows_of;
+pub use visit::{Visit, is_leaf};
