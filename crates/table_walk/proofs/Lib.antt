@@ -5,3 +5,4 @@ pub mod OrderLemmas
 pub mod RowsLemmas
 pub mod GatherLemmas
 pub mod VisitLemmas
+pub mod TableLemmas

@@ -4,6 +4,7 @@
 mod address;
 mod find;
 mod key;
+mod law;
 mod layout;
 mod refusal;
 mod row_map;
@@ -13,6 +14,7 @@ mod visit;
 pub use address::{names_none, page_at};
 pub use find::{Find, Wants};
 pub use key::{copy_row, key_of};
+pub use law::{rows_are_one, rows_depend_on_owned_pages};
 pub use layout::{Layout, Walked, walk, wants_of};
 pub use refusal::SeenRefusal;
 pub use row_map::RowMap;
