@@ -6,3 +6,5 @@ pub mod RowsLemmas
 pub mod GatherLemmas
 pub mod VisitLemmas
 pub mod TableLemmas
+pub mod PlanLemmas
+pub mod AddressLemmas

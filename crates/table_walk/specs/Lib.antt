@@ -3,3 +3,4 @@ pub mod Walk
 pub mod Tables
 pub mod Answers
 pub mod Sought
+pub mod Plans

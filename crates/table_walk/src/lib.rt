@@ -6,6 +6,7 @@ mod find;
 mod key;
 mod law;
 mod layout;
+mod plan;
 mod refusal;
 mod row_map;
 mod rows;
@@ -14,8 +15,12 @@ mod visit;
 pub use address::{names_none, page_at};
 pub use find::{Find, Wants};
 pub use key::{copy_row, key_of};
-pub use law::{rows_are_one, rows_depend_on_owned_pages};
+pub use law::{
+    addresses_are_read, plans_are_carried_on, plans_depend_on_owned_pages, rows_are_one,
+    rows_depend_on_owned_pages,
+};
 pub use layout::{Layout, Walked, walk, wants_of};
+pub use plan::{Edit, EditList, Plan, Spot};
 pub use refusal::SeenRefusal;
 pub use row_map::RowMap;
 pub use rows::rows_of;
