@@ -8,6 +8,8 @@ mod line;
 mod number;
 mod reading;
 mod spelling;
+#[cfg(test)]
+mod tests;
 
 pub use desc::{DescList, DescRefusal, TableDesc};
 pub use law::rows_and_tables_determine_each_other;

@@ -3,5 +3,7 @@
 
 mod layout;
 mod reading;
+#[cfg(test)]
+mod tests;
 
 pub use reading::{rows, wants};
