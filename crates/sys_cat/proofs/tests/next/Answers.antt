@@ -1,0 +1,8 @@
+use Rattle.std.proofs.Common.{◌<◌, List, arith, subst, sym}
+use Rattle.std.specs.Prelude.{All}
+use Rattle.std.proofs.lemmas.List.Elements.{All-push}
+use Rattle.sys_cat.specs.declared.desc.TableDesc.{TableDesc}
+use Rattle.sys_cat.proofs.tests.next.Goals as goal
+
+pub loop-number-preserved : goal.loop-number-preserved
+loop-number-preserved c = ?
