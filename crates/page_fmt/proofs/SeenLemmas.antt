@@ -27,22 +27,6 @@ is_page-other p q ne =
     ] in
     by (is_page p q) refl
 
-pub place_of-there : (xs : List Looked) (p : PageId) (i : ℕ) (d : Looked) → i < length xs → ((k : ℕ) (d : Looked) → k < i → (get_or xs k d).page ≢ p) → (get_or xs i d).page ≡ p → place_of xs p ≡ i
-place_of-there [] p i d h before here = absurd (omega arith)
-place_of-there (x ∷ xs) p zero d h before here = ap (λ b. cond b 0 (place_of xs p + 1)) (ap (λ q. is_page q p) here ∙ is_page-same p)
-place_of-there (x ∷ xs) p (suc i) d h before here =
-    ap (λ b. cond b 0 (place_of xs p + 1)) (is_page-other x.page p (before 0 d (omega arith)))
-    ∙ ap (λ n. n + 1) (place_of-there xs p i d (omega arith) (λ k e lt. before (suc k) e (omega arith)) here)
-    ∙ omega arith
-
-pub place_of-none : (xs : List Looked) (p : PageId) → ((k : ℕ) (d : Looked) → k < length xs → (get_or xs k d).page ≢ p) → place_of xs p ≡ length xs
-place_of-none [] p none = refl
-place_of-none (x ∷ xs) p none =
-    let d : Looked = x in
-    ap (λ b. cond b 0 (place_of xs p + 1)) (is_page-other x.page p (none 0 d (omega arith)))
-    ∙ ap (λ n. n + 1) (place_of-none xs p (λ k e lt. none (suc k) e (omega arith)))
-    ∙ omega arith
-
 -- what stands at the place is what was read
 pub look-place : (xs : List Looked) (p : PageId) (d : Looked) → Saw xs p → look xs p ≡ (get_or xs (place_of xs p) d).slots
 look-place [] p d h = absurd (omega arith)

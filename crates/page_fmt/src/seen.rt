@@ -1,9 +1,9 @@
 //! Pages that were read, kept as they were when they were read.
 
-ghost use Rattle.std.specs.Prelude.{◌≡◌, ◌<◌, ◌++◌, ◌∷◌, [], IfOk, OnOk, OnErr, IfSome, IfNone, length, slice_index_or};
+ghost use Rattle.std.specs.Prelude.{◌≡◌, ◌<◌, ◌++◌, ◌∷◌, [], IfOk, OnOk, OnErr, length, slice_index_or};
 ghost use Rattle.page_fmt.specs.Content.{content, IsPage};
 ghost use Rattle.page_fmt.specs.Spelling.{FitsPage};
-ghost use Rattle.page_fmt.specs.Seen.{Looked, place_of};
+ghost use Rattle.page_fmt.specs.Seen.{Looked};
 
 use crate::reading::{slot, slots};
 use page_base::{Image, NoMemory, PageId};
@@ -116,19 +116,5 @@ impl Seen {
         ensures { (d : Looked) → result.now ≡ slice_index_or (slice_index_or self.now i d).slots j [] }
     {
         self.pages[i].slot(j)
-    }
-
-    /// The place of a page, the first where it was added twice; None exactly where it wasn't added. Takes no memory.
-    pub fn place(&self, page: PageId) -> Option<usize>
-        ensures some { IfSome result (λ i. i ≡ place_of self.now page) }
-        ensures there { IfSome result (λ i. i < length self.now) }
-        ensures none { IfNone result (place_of self.now page ≡ length self.now) }
-    {
-        for i in 0..self.pages.len() {
-            if self.pages[i].page() == page {
-                return Some(i);
-            }
-        }
-        None
     }
 }

@@ -8,3 +8,4 @@ pub mod VisitLemmas
 pub mod TableLemmas
 pub mod PlanLemmas
 pub mod AddressLemmas
+pub mod IndexLemmas

@@ -4,3 +4,4 @@ pub mod Tables
 pub mod Answers
 pub mod Sought
 pub mod Plans
+pub mod Index

@@ -6,6 +6,7 @@ ghost use Rattle.table_walk.specs.Walk.{Kids, IsSeenWalk, Lacks, IsBad};
 ghost use Rattle.table_walk.specs.Answers.{Tells, IsAt, IsOn};
 
 use crate::find::Wants;
+use crate::index::{page_index, place};
 use crate::refusal::SeenRefusal;
 use crate::visit::{Visit, is_leaf};
 use page_fmt::Seen;
@@ -45,12 +46,13 @@ pub fn walk<L: Layout>(
     ensures done { IfOk result (λ w. MatchOption w.lacks (IsSeenWalk (L.kids layout.now) seen.now start w.done.items []) (λ v. Lacks (L.kids layout.now) seen.now start v)) }
     ensures bad { IfErr result (IsAt (IsBad (L.kids layout.now) seen.now start)) }
 {
+    let places = page_index(alloc, seen)?;
     let mut done = Vec::new(alloc);
     let mut marked = vec![in alloc; false; seen.len()]?;
     let mut todo = Vec::new(alloc);
     todo.push(start)?;
     while let Some(visit) = todo.pop() {
-        let Some(i) = seen.place(visit.page) else {
+        let Some(i) = place(&places, seen, visit.page) else {
             return Ok(Walked {
                 done,
                 lacks: Some(visit),

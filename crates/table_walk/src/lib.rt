@@ -3,6 +3,7 @@
 
 mod address;
 mod find;
+mod index;
 mod key;
 mod law;
 mod layout;

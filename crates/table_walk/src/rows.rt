@@ -13,9 +13,11 @@ ghost use Rattle.table_walk.specs.declared.visit.Visit.{Visit};
 ghost use Rattle.table_walk.specs.Walk.{IsSeenWalk, IsDone};
 ghost use Rattle.table_walk.specs.Tables.{Gathers, AreRows, IsSomeRow, IsNoRow, IsNoRowOf, IsBadRow, full, cells, cells_of};
 ghost use Rattle.table_walk.specs.Answers.{IsAt, IsOn, asks, asked};
+ghost use Rattle.table_walk.specs.Index.{Indexes};
 ghost use Rattle.table_walk.specs.Sought.{knows, with_asked, IsSought};
 
 use crate::find::Find;
+use crate::index::{page_index, place};
 use crate::key::{copy_row, key_of};
 use crate::layout::{Layout, walk};
 use crate::refusal::SeenRefusal;
@@ -25,6 +27,7 @@ use page_base::{Columns, NoMemory, PageId, Row, RowList};
 use page_fmt::Seen;
 use row_fmt::{RowRefusal, decode};
 use std::alloc::Global;
+use std::collections::BTreeMap;
 
 // The keys in a list, each once.
 fn key_set(alloc: Global, keys: &[Row]) -> Result<RowMap, NoMemory>
@@ -125,10 +128,12 @@ fn add_visit(
     cols: &Columns,
     keys: &Option<RowMap>,
     visit: Visit,
+    places: &BTreeMap<PageId, usize>,
     seen: &Seen,
     rows: &mut RowMap,
 ) -> Result<(), SeenRefusal>
-    requires { Saw seen.now visit.page }
+    requires saw { Saw seen.now visit.page }
+    requires places { Indexes places.now seen.now }
     ensures rows { OnOk result ((old : List (List ℕ)) → IsSought cols.now keys.now old rows.old → IsSought cols.now keys.now (old ++ cells_of (look seen.now) visit) rows.new) }
     ensures are { OnOk result (AreRows cols.now (cells_of (look seen.now) visit)) }
     ensures bad { IfErr result (IsAt (λ page slot. IsNoRowOf cols.now seen.now page slot visit)) }
@@ -136,7 +141,7 @@ fn add_visit(
     if !is_leaf(visit) {
         return Ok(());
     }
-    match seen.place(visit.page) {
+    match place(places, seen, visit.page) {
         Some(i) => add_page(alloc, cols, keys, seen, i, rows),
         None => Ok(()),
     }
@@ -148,16 +153,18 @@ fn gathered(
     cols: &Columns,
     keys: &Option<RowMap>,
     done: &[Visit],
+    places: &BTreeMap<PageId, usize>,
     seen: &Seen,
 ) -> Result<RowMap, SeenRefusal>
-    requires { (k : ℕ) (d : Visit) → k < length done.now → Saw seen.now (slice_index_or done.now k d).page }
+    requires places { Indexes places.now seen.now }
+    requires saw { (k : ℕ) (d : Visit) → k < length done.now → Saw seen.now (slice_index_or done.now k d).page }
     ensures rows { IfOk result (IsSought cols.now keys.now (cells (look seen.now) done.now)) }
     ensures are { OnOk result (AreRows cols.now (cells (look seen.now) done.now)) }
     ensures bad { IfErr result (IsAt (λ page slot. Any (IsNoRowOf cols.now seen.now page slot) done.now)) }
 {
     let mut rows = RowMap::new(alloc);
     for visit in done {
-        add_visit(alloc, cols, keys, *visit, seen, &mut rows)?;
+        add_visit(alloc, cols, keys, *visit, places, seen, &mut rows)?;
     }
     Ok(rows)
 }
@@ -179,6 +186,7 @@ pub fn rows_of<L: Layout>(
 {
     let walked = walk(alloc, layout, start, seen)?;
     let keys = asked_keys(alloc, find)?;
-    let rows = gathered(alloc, cols, &keys, walked.done.as_slice(), seen)?;
+    let places = page_index(alloc, seen)?;
+    let rows = gathered(alloc, cols, &keys, walked.done.as_slice(), &places, seen)?;
     Ok(rows.into_list(alloc)?)
 }

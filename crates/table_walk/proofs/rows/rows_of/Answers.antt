@@ -19,8 +19,8 @@ returns-in_err-walked-clause-bad g c =
     handed_on Bad c.from_residual.result c.in_err-walked.field-0.0 c.from_residual.ensures.1
     (done_not_bad_at (g.L.Layout.kids c.args.layout.now) c.args.seen.now c.args.start (IsBadRow (g.L.Layout.kids c.args.layout.now) c.args.cols.now c.args.seen.now c.args.start) c.requires c.in_err-walked.field-0.0 c.in_err-walked.ensures.bad)
 
-pub gathered-requires : goal.gathered-requires
-gathered-requires g c =
+pub gathered-requires-clause-saw : goal.gathered-requires-clause-saw
+gathered-requires-clause-saw g c =
     let w = whole_walk (g.L.Layout.kids c.args.layout.now) c.args.seen.now c.args.start c.in_ok-walked.walked.done.items c.in_ok-walked.walked.lacks c.requires c.in_ok-walked.ensures.done in
     λ k d lt. subst (λ vs. (k : ℕ) (d : Visit) → k < length vs → Saw c.args.seen.now (get_or vs k d).page) (sym c.as_slice.ensures.value) w.were k d lt
 
