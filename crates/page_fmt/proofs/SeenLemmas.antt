@@ -1,5 +1,5 @@
 -- Finding a page in what was read.
-use Rattle.std.proofs.Common.{refl, ◌≡◌, ◌≢◌, ℕ, zero, suc, ◌+◌, ◌<◌, List, [], ◌∷◌, length, get_or, ap, sym, ◌∙◌, subst, arith, Bool, true, false, cond, ◌==◌, ◌&&◌, eq-eqb, eqb-true}
+use Rattle.std.proofs.Common.{refl, ◌≡◌, ◌≢◌, suc, ◌+◌, List, [], ◌∷◌, get_or, ap, sym, ◌∙◌, arith, Bool, true, false, cond, ◌==◌, ◌&&◌, eq-eqb, eqb-true}
 use Rattle.page_base.specs.declared.numbers.PageId.{PageId}
 use Rattle.page_base.specs.Pages.{is_page}
 use Rattle.page_fmt.specs.Seen.{Looked, place_of, look, Saw}

@@ -5,7 +5,6 @@ use Rattle.std.specs.Prelude.{option_to_list}
 use Rattle.std.proofs.lemmas.List.{append-nil}
 use Rattle.page_base.specs.declared.numbers.PageId.{PageId}
 use Rattle.table_walk.specs.declared.visit.Visit.{Visit}
-
 use Rattle.table_walk.specs.Addresses.{page_at}
 use Rattle.table_heap.specs.Heap.{before, leaf_named, leaf_visits, put_before, join, next_visits, root_kids}
 

@@ -61,10 +61,22 @@ fn pages_are_wanted_in_turn(rt: HostRuntime) -> Result<(), Fail> {
     let cols = columns(alloc)?;
     let mut seen = Seen::new(alloc)?;
     let first = wants(alloc, ROOT, &cols, &Find::All, &seen)?;
-    assert_eq!(rt; first, Wants::Page { page: ROOT, rows: false });
+    assert_eq!(rt;
+        first,
+        Wants::Page {
+            page: ROOT,
+            rows: false
+        }
+    );
     seen.add(alloc, ROOT, &page(alloc, &ROOT_SLOTS)?)?;
     let second = wants(alloc, ROOT, &cols, &Find::All, &seen)?;
-    assert_eq!(rt; second, Wants::Page { page: LEAF, rows: true });
+    assert_eq!(rt;
+        second,
+        Wants::Page {
+            page: LEAF,
+            rows: true
+        }
+    );
     seen.add(alloc, LEAF, &page(alloc, &LEAF_SLOTS)?)?;
     assert_eq!(rt; wants(alloc, ROOT, &cols, &Find::All, &seen)?, Wants::Done);
     assert_eq!(rt; seen.len(), 2);
@@ -100,14 +112,23 @@ fn rows_stand_in_key_order(rt: HostRuntime) -> Result<(), Fail> {
     seen.add(alloc, LEAF, &page(alloc, &LEAF_SLOTS)?)?;
     let found = all_rows(alloc, &cols, &Find::All, &seen)?;
     assert_eq!(rt; found.len(), 2);
-    assert_eq!(rt; found.at(0).as_slice(), [Value::Int(1), Value::Int(10)].as_slice());
-    assert_eq!(rt; found.at(1).as_slice(), [Value::Int(2), Value::Int(20)].as_slice());
+    assert_eq!(rt;
+        found.at(0).as_slice(),
+        [Value::Int(1), Value::Int(10)].as_slice()
+    );
+    assert_eq!(rt;
+        found.at(1).as_slice(),
+        [Value::Int(2), Value::Int(20)].as_slice()
+    );
     let mut keys = RowList::new(alloc);
     keys.push(ints(alloc, &[2])?)?;
     keys.push(ints(alloc, &[3])?)?;
     let found = all_rows(alloc, &cols, &Find::Keys(keys), &seen)?;
     assert_eq!(rt; found.len(), 1);
-    assert_eq!(rt; found.at(0).as_slice(), [Value::Int(2), Value::Int(20)].as_slice());
+    assert_eq!(rt;
+        found.at(0).as_slice(),
+        [Value::Int(2), Value::Int(20)].as_slice()
+    );
     Ok(())
 }
 

@@ -1,5 +1,5 @@
 -- The address of a page, read again.
-use Rattle.std.proofs.Common.{refl, ◌≡◌, ℕ, ◌+◌, ◌*◌, ◌/◌, ◌%◌, ◌<◌, ap, ◌∙◌, arith, Bool, true, false, cond, ◌==◌, ◌&&◌, eqb-true}
+use Rattle.std.proofs.Common.{refl, ◌≡◌, ℕ, ◌+◌, ◌*◌, ◌/◌, ◌%◌, ap, ◌∙◌, arith, Bool, true, false, cond, ◌==◌, ◌&&◌, eqb-true}
 use Rattle.std.specs.Prelude.{None, Some}
 use Rattle.page_base.specs.declared.numbers.PageId.{PageId}
 use Rattle.table_walk.specs.Addresses.{address, target, page_at, IsTarget}

@@ -1,6 +1,6 @@
 -- Cells and the rows that they are, with one cell taken out or put in anywhere.
-use Rattle.std.proofs.Common.{◌≡◌, ◌≢◌, ℕ, zero, suc, ◌+◌, ◌<◌, ◌≤◌, true, false, List, [], ◌∷◌, ◌++◌, length, take, get_or, refl, ap, sym, ◌∙◌, subst, arith, append_assoc}
-use Rattle.std.specs.Prelude.{Option, Some, None}
+use Rattle.std.proofs.Common.{◌≡◌, ◌≢◌, ℕ, ◌+◌, ◌<◌, ◌≤◌, List, [], ◌∷◌, ◌++◌, length, take, get_or, refl, ap, sym, ◌∙◌, subst, append_assoc}
+use Rattle.std.specs.Prelude.{Option, None}
 use Rattle.std.specs.FinMap as finite
 use Rattle.std.proofs.lemmas.List.{append-nil, take_more, take_all}
 use Rattle.page_base.specs.declared.column.Column.{Column}
@@ -8,9 +8,9 @@ use Rattle.page_base.specs.declared.value.Value.{Value}
 use Rattle.plain_model.specs.Tables.{Rows, key_of}
 use Rattle.row_fmt.specs.Rows.{IsRow}
 use Rattle.row_fmt.proofs.RowLemmas.{one_row}
-use Rattle.table_walk.specs.Tables.{Gathers, IsSmall, IsSomeRow, AreRows, full}
+use Rattle.table_walk.specs.Tables.{Gathers, IsSmall, AreRows, full}
 use Rattle.table_walk.specs.Sought.{kept, with_asked, IsSought}
-use Rattle.table_walk.proofs.RowsLemmas.{Key, same_key, turned, insert_swap, none_apart, none_other, kept-insert}
+use Rattle.table_walk.proofs.RowsLemmas.{Key, turned, insert_swap, none_apart, none_other, kept-insert}
 
 abbrev Cells : Type 0
 Cells = List (List ℕ)

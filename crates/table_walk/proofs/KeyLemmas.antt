@@ -1,16 +1,11 @@
 -- The cells of a key: the first column of each place, and rows of the same key.
-use Rattle.std.proofs.Common.{◌≡◌, ◌≢◌, ◌<◌, ◌≤◌, ◌+◌, ◌-◌, ℕ, zero, suc, Bool, true, false, ◌&&◌, ◌||◌, List, [], ◌∷◌, length, get_or, drop, map, refl, ap, sym, ◌∙◌, nat_eq, arith, eq-eqb, eqb-true, inl, inr}
-use Rattle.std.specs.Prelude.{nat_le}
-use Rattle.std.specs.List.{list_any, range_with_len}
-use Rattle.std.specs.Str.{bytes_eq}
-use Rattle.std.proofs.lemmas.Bool.{ne_eqb, cases_Bool}
-use Rattle.std.proofs.lemmas.Bool.Decides.{nat_tests}
-use Rattle.std.proofs.lemmas.List.{drop_more, drop-drop, get_or-drop}
-use Rattle.std.proofs.lemmas.List.FromFn.{get_or-map-range_with_len}
+use Rattle.std.proofs.Common.{◌≡◌, ◌≢◌, ◌<◌, ◌+◌, ℕ, false, List, [], ◌∷◌, length, get_or, drop, refl, ap, sym, ◌∙◌, nat_eq}
+use Rattle.std.proofs.lemmas.Bool.{ne_eqb}
+use Rattle.std.proofs.lemmas.List.{drop_more, drop-drop}
 use Rattle.page_base.specs.declared.column.Column.{Column}
 use Rattle.page_base.specs.declared.value.Value.{Value}
 use Rattle.page_base.specs.declared.value.Value.TheVariants.{Null}
-use Rattle.plain_model.specs.Tables.{key_cell, key_size, key_of}
+use Rattle.plain_model.specs.Tables.{key_cell}
 
 no_cells : (cols : List Column) (place : ℕ) → key_cell cols [] place ≡ Null
 no_cells [] place = refl
@@ -28,4 +23,3 @@ key_cell-past cols row i place c in' is ne =
     ap (λ (cs : List Column). key_cell cs (drop i row) place) (drop_more cols i c in' ∙ ap (λ (d : Column). d ∷ drop (i + 1) cols) (sym is))
     ∙ pass c (drop (i + 1) cols) (drop i row) place ne
     ∙ ap (λ (r : List Value). key_cell (drop (i + 1) cols) r place) (drop-drop 1 i row)
-

@@ -1,7 +1,6 @@
 -- Only equal values and keys tie.
 use Rattle.std.proofs.Common.{◌≡◌, refl, ap}
-use Rattle.std.specs.Ordering.{nat_cmp, int_cmp, ordering_then}
-use Rattle.std.specs.Cmp.Lexicographic.{slice_cmp}
+use Rattle.std.specs.Ordering.{int_cmp, ordering_then}
 use Rattle.std.specs.FinMap.{IsAntisymmetric, nat_cmp-IsAntisymmetric, int_cmp-IsAntisymmetric, slice_cmp-IsAntisymmetric}
 use Rattle.std.specs.declared.cmp.Ordering.{Ordering}
 use Rattle.std.specs.declared.cmp.Ordering.TheVariants.{Less, Equal, Greater}
@@ -34,4 +33,3 @@ value_cmp-exact (Text a) (Text b) e = ap Text (slice_cmp-IsAntisymmetric nat_cmp
 -- only equal keys tie
 pub keys_exact : IsAntisymmetric key_cmp
 keys_exact = slice_cmp-IsAntisymmetric value_cmp-exact
-

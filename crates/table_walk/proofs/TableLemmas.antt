@@ -1,20 +1,18 @@
 -- Tables of pages: what was read of them, and that they depend on no other page.
-use Rattle.std.proofs.Common.{refl, ◌≡◌, ◌≢◌, ℕ, zero, suc, ◌+◌, ◌<◌, List, [], ◌∷◌, ◌++◌, length, get_or, ap, sym, ◌∙◌, subst, arith, Bool, true, false, cond}
-use Rattle.std.specs.FinMap as finite
+use Rattle.std.proofs.Common.{refl, ◌≡◌, ◌≢◌, ℕ, zero, suc, ◌<◌, List, [], ◌∷◌, ◌++◌, length, get_or, ap, sym, ◌∙◌, subst, arith, Bool, true, cond}
 use Rattle.std.proofs.lemmas.List.{get_or_default}
 use Rattle.page_base.specs.declared.column.Column.{Column}
 use Rattle.page_base.specs.declared.numbers.PageId.{PageId}
-use Rattle.page_fmt.specs.Seen.{SlotsAt, Looked, look, Saw, Shows}
+use Rattle.page_fmt.specs.Seen.{SlotsAt, Looked, look, Shows}
 use Rattle.plain_model.specs.Tables.{Rows}
 use Rattle.table_walk.specs.declared.refusal.SeenRefusal.{SeenRefusal}
 use Rattle.table_walk.specs.declared.refusal.SeenRefusal.TheVariants.{Damaged, Memory}
-use Rattle.table_walk.specs.declared.find.Find.{Find}
 use Rattle.table_walk.specs.declared.find.Wants.{Wants}
 use Rattle.table_walk.specs.declared.find.Wants.TheVariants.{Page, Done}
 use Rattle.table_walk.specs.declared.visit.Visit.{Visit}
-use Rattle.table_walk.specs.Walk.{Kids, IsSeenWalk, Lacks, IsBad, IsDone}
+use Rattle.table_walk.specs.Walk.{Kids, IsSeenWalk, Lacks, IsBad}
 use Rattle.table_walk.specs.Tables.{Gathers, AreRows, IsNoRowOf, HasRows, IsBadRow, IsSomeRow, full, cells, cells_of, is_leaf}
-use Rattle.table_walk.specs.Answers.{IsAt, IsMemory, IsNext, Tells, OfPage, asked}
+use Rattle.table_walk.specs.Answers.{IsAt, IsMemory, Tells, OfPage}
 use Rattle.table_walk.proofs.GatherLemmas.{gathered_are, gathers_one, AreRows-parts}
 use Rattle.table_walk.proofs.WalkLemmas.{is_ahead, is_all, never_bad, walks-same, walks-one}
 

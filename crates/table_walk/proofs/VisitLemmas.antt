@@ -1,5 +1,5 @@
 -- The rows of visits, page by page, and slots that are no rows.
-use Rattle.std.proofs.Common.{refl, ◌≡◌, ◌≢◌, ℕ, zero, suc, ◌+◌, ◌<◌, ◌≤◌, List, [], ◌∷◌, ◌++◌, length, get_or, take, ap, sym, ◌∙◌, subst, arith, Bool, true, false, cond, Result, Ok, Err, OnOk, IfOk, IfErr, append_assoc, eqb-true, eq-eqb, ◌==◌, ◌||◌}
+use Rattle.std.proofs.Common.{refl, ◌≡◌, ◌≢◌, ℕ, zero, suc, ◌+◌, ◌<◌, ◌≤◌, List, [], ◌∷◌, ◌++◌, length, get_or, take, ap, sym, ◌∙◌, subst, arith, Bool, true, false, cond, append_assoc, eqb-true, eq-eqb, ◌==◌, ◌||◌}
 use Rattle.std.specs.Prelude.{Option, Some, None}
 use Rattle.std.specs.FinMap as finite
 use Rattle.std.specs.List.{Any, list_any}
@@ -7,8 +7,7 @@ use Rattle.std.proofs.lemmas.List.{take_more, take_all, append-nil, get_or_defau
 use Rattle.std.proofs.lemmas.List.Folds.{list_any-append}
 use Rattle.page_base.specs.declared.column.Column.{Column}
 use Rattle.page_base.specs.declared.numbers.PageId.{PageId}
-use Rattle.page_base.specs.declared.value.Value.{Value}
-use Rattle.page_fmt.specs.Spelling.{used, row_bytes, FitsPage}
+use Rattle.page_fmt.specs.Spelling.{row_bytes, FitsPage}
 use Rattle.page_fmt.specs.Seen.{SlotsAt, Looked, look, Saw, place_of}
 use Rattle.page_fmt.proofs.SeenLemmas.{look-place}
 use Rattle.plain_model.specs.Tables.{Rows}

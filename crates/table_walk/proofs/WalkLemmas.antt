@@ -1,6 +1,6 @@
 -- Walks: one visit more, frames, and that there is one walk.
-use Rattle.std.proofs.Common.{reverse, refl, ◌≡◌, ◌≢◌, ℕ, zero, suc, ◌+◌, ◌<◌, List, [], ◌∷◌, ◌++◌, length, get_or, ap, sym, ◌∙◌, subst, arith, Bool, true, false, cond, Result, Ok, Err, IsOkAnd, Option, None, Some, MatchOption, inl, inr, ◌⊎◌, set, append_assoc, length-append, replicate, remove, length-set, get_or-set_same, get_or-set_other}
-use Rattle.std.proofs.lemmas.List.{get_or-append_right, get_or_append_left, length-replicate, get_or_default, reverse-append, reverse-reverse}
+use Rattle.std.proofs.Common.{reverse, refl, ◌≡◌, ◌≢◌, ℕ, zero, suc, ◌+◌, ◌<◌, List, [], ◌∷◌, ◌++◌, length, get_or, ap, sym, ◌∙◌, subst, arith, Bool, true, false, cond, Result, Ok, Err, IsOkAnd, Option, None, Some, MatchOption, inl, inr, set, length-append, replicate, length-set, get_or-set_same, get_or-set_other}
+use Rattle.std.proofs.lemmas.List.{get_or_append_left, length-replicate, get_or_default, reverse-append, reverse-reverse}
 use Rattle.std.specs.List.{Any, AllPairs, All}
 use Rattle.std.proofs.lemmas.List.Quantifiers.{Any-push, all_pairs_push}
 use Rattle.std.proofs.lemmas.Bool.{cases_eq}

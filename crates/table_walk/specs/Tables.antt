@@ -1,6 +1,6 @@
 -- A table of pages, the same for each layout: the pages of a walk are those that it owns, and their cells are its rows.
 use Rattle.std.specs.Prelude.{Bool, true, false, Option, None, Some, if◌then◌else◌, ◌≡◌, ◌≢◌, ◌≤◌, ℕ, zero, suc, ◌<◌, List, [], ◌∷◌, ◌++◌, ◌↔◌, length, slice_index_or}
-use Rattle.std.specs.List.{Any, All}
+use Rattle.std.specs.List.{Any}
 use Rattle.std.specs.FinMap as finite
 use Rattle.page_base.specs.declared.column.Column.{Column}
 use Rattle.page_base.specs.declared.numbers.PageId.{PageId}

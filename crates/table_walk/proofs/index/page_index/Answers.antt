@@ -1,9 +1,8 @@
-use Rattle.std.proofs.Common.{◌≡◌, ◌<◌, ◌∙◌, ◌++◌, ◌∷◌, [], List, ℕ, length, take, get_or, ap, sym, arith, true, false, cond}
+use Rattle.std.proofs.Common.{◌≡◌, ◌<◌, ◌∙◌, [], List, length, take, get_or, ap, sym, arith, true, false, cond}
 use Rattle.std.specs.Prelude.{Some}
 use Rattle.std.specs.Option.{is_some}
 use Rattle.std.specs.Ordering.{is_eq}
 use Rattle.std.proofs.lemmas.List.{take_more, length-take-le}
-use Rattle.page_base.specs.declared.numbers.PageId.{PageId}
 use Rattle.page_fmt.specs.Seen.{Looked}
 use Rattle.table_walk.specs.Index.{place_in, page_cmp}
 use Rattle.table_walk.proofs.IndexLemmas.{index_old, index_new}

@@ -1,6 +1,4 @@
-use Rattle.std.proofs.Common.{◌≡◌, ◌<◌, ◌∙◌, ℕ, length, arith}
-use Rattle.std.specs.Prelude.{Option, Some, None, IfSome, IfNone}
-use Rattle.page_fmt.specs.Seen.{place_of}
+use Rattle.std.proofs.Common.{◌∙◌}
 use Rattle.table_walk.proofs.IndexLemmas.{place_some, if_some}
 use Rattle.table_walk.proofs.index.place.Goals as goal
 

@@ -1,14 +1,11 @@
-use Rattle.std.proofs.Common.{ℕ, List, ◌≡◌, ◌<◌, ◌++◌, ◌∷◌, [], Ok, Err, length, reverse, get_or, set, ap, sym, ◌∙◌, subst, arith, false}
+use Rattle.std.proofs.Common.{◌≡◌, ◌<◌, ◌++◌, ◌∷◌, [], length, reverse, get_or, sym, ◌∙◌, arith, false}
 use Rattle.std.proofs.lemmas.List.{get_or_default}
-use Rattle.std.specs.Option.{option_to_list}
 use Rattle.page_fmt.specs.Seen.{Looked}
-use Rattle.table_walk.specs.declared.visit.Visit.{Visit}
 use Rattle.table_walk.specs.declared.refusal.SeenRefusal.{SeenRefusal}
-use Rattle.table_walk.specs.declared.refusal.SeenRefusal.TheVariants.{Damaged, Memory}
 use Rattle.table_walk.specs.Walk.{IsBad}
-use Rattle.table_walk.specs.Answers.{IsAt, IsOn}
+use Rattle.table_walk.specs.Answers.{IsAt}
 use Rattle.table_walk.proofs.Exits.{handed_on}
-use Rattle.table_walk.proofs.WalkLemmas.{UnderWay, unmarked, unmarked-set, stack_next, stack_more, step, on_bad}
+use Rattle.table_walk.proofs.WalkLemmas.{unmarked-set, stack_next, stack_more, step, on_bad}
 use Rattle.table_walk.proofs.layout.walk.Goals as goal
 
 pub returns-in_err-next-clause-bad : goal.returns-in_err-next-clause-bad

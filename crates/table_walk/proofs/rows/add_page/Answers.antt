@@ -1,4 +1,4 @@
-use Rattle.std.proofs.Common.{◌≡◌, ◌<◌, ◌≤◌, length, get_or, arith, [], ap, sym, subst, ◌∙◌}
+use Rattle.std.proofs.Common.{◌<◌, ◌≤◌, length, get_or, arith, [], ap, sym, ◌∙◌}
 use Rattle.page_fmt.specs.Seen.{Looked}
 use Rattle.table_walk.specs.declared.refusal.SeenRefusal.{SeenRefusal}
 use Rattle.table_walk.specs.Tables.{IsNoRow}

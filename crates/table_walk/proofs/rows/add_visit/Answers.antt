@@ -1,4 +1,4 @@
-use Rattle.std.proofs.Common.{◌≡◌, ◌++◌, List, [], ℕ, true, ap, sym, subst, ◌∙◌}
+use Rattle.std.proofs.Common.{◌≡◌, ◌++◌, [], true, sym, subst, ◌∙◌}
 use Rattle.page_fmt.specs.Seen.{Looked}
 use Rattle.table_walk.specs.Tables.{is_leaf, AreRows}
 use Rattle.table_walk.specs.Sought.{IsSought}

@@ -1,14 +1,10 @@
-use Rattle.std.proofs.Common.{ℕ, List, ◌≡◌, ◌<◌, ◌≤◌, ◌++◌, [], length, get_or, ap, sym, ◌∙◌, subst}
-use Rattle.std.specs.FinMap as finite
+use Rattle.std.proofs.Common.{ℕ, ◌<◌, length, get_or, sym, ◌∙◌, subst}
 use Rattle.page_fmt.specs.Seen.{Saw, look}
-use Rattle.plain_model.specs.Tables.{Rows}
 use Rattle.table_walk.specs.declared.visit.Visit.{Visit}
 use Rattle.table_walk.specs.declared.refusal.SeenRefusal.{SeenRefusal}
-use Rattle.table_walk.specs.Walk.{IsSeenWalk}
 use Rattle.table_walk.specs.Tables.{cells, AreRows, IsBadRow}
-use Rattle.table_walk.specs.Sought.{IsSought}
 use Rattle.table_walk.specs.Answers.{IsAt}
-use Rattle.table_walk.proofs.Exits.{handed_on, if_ok, on_ok}
+use Rattle.table_walk.proofs.Exits.{handed_on}
 use Rattle.table_walk.proofs.WalkLemmas.{whole_walk, one_walk, done_not_bad_at}
 use Rattle.table_walk.proofs.VisitLemmas.{walk_rows, walk_bad_row}
 use Rattle.table_walk.proofs.rows.rows_of.Goals as goal

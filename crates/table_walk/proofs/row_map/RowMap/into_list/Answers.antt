@@ -1,4 +1,4 @@
-use Rattle.std.proofs.Common.{◌≡◌, ◌∙◌, ap, sym, List, append-nil, ◌++◌, map}
+use Rattle.std.proofs.Common.{◌∙◌, ap, sym, List, append-nil, ◌++◌, map}
 use Rattle.std.specs.FinMap as finite
 use Rattle.plain_model.specs.Tables.{Rows}
 use Rattle.page_base.specs.declared.value.Value.{Value}
