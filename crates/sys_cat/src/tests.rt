@@ -1,7 +1,9 @@
 //! Rows of tables worked out by hand, the first wrong row of others, and the next number.
 
 use crate::{DescList, DescRefusal, TableDesc, descs, next_number, rows_of};
-use page_base::{Bytes, ColType, Column, Columns, Name, NoMemory, PageId, Row, RowList, TableNo, Value};
+use page_base::{
+    Bytes, ColType, Column, Columns, Name, NoMemory, PageId, Row, RowList, TableNo, Value,
+};
 use std::alloc::Global;
 use std::test::Fail;
 

@@ -1,16 +1,12 @@
 -- The rows of leaves after keys were cut and rows put.
-use Rattle.std.proofs.Common.{◌≡◌, ◌≢◌, ℕ, Bool, true, false, cond, ◌||◌, List, [], ◌∷◌, ◌++◌, map, refl, ap, sym, ◌∙◌, subst, append_assoc}
+use Rattle.std.proofs.Common.{◌≡◌, Bool, true, false, cond, ◌||◌, List, [], ◌∷◌, ◌++◌, refl, ap, sym, ◌∙◌, subst, append_assoc}
 use Rattle.std.specs.Prelude.{Option, Some, None}
 use Rattle.std.specs.FinMap as finite
-use Rattle.std.specs.List.{list_any}
-use Rattle.std.proofs.lemmas.List.{append-nil}
-use Rattle.std.proofs.lemmas.List.Folds.{list_any-append}
 use Rattle.page_base.specs.declared.column.Column.{Column}
-use Rattle.page_base.specs.declared.value.Value.{Value}
 use Rattle.plain_model.specs.Tables.{Rows, key_of}
 use Rattle.table_walk.specs.Plans.{cut_all, put_all}
-use Rattle.table_walk.proofs.RowsLemmas.{Key, same_key, rows_same, get_put, get_cut, get_none, itself, turned, ties, no_Some, insert_swap, none_apart, none_other}
-use Rattle.table_heap.specs.Leaves.{ByKeys, Leaf, rows_in, all_rows, has, holds, before, trimmed, changed, cut, has_room, swap, added, add, put, cut_keys, put_rows, fits}
+use Rattle.table_walk.proofs.RowsLemmas.{Key, same_key, rows_same, get_put, get_cut, get_none, itself, turned, ties, insert_swap, none_apart, none_other}
+use Rattle.table_heap.specs.Leaves.{ByKeys, Leaf, rows_in, all_rows, holds, before, trimmed, changed, cut, has_room, swap, added, add, put, cut_keys, put_rows, fits}
 
 -- whether one of some rows has a key
 abbrev pub is_there : List Column → Key → List Key → Bool

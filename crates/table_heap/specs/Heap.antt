@@ -1,5 +1,5 @@
 -- A heap: root pages that name leaves, 1,000 on each before the next, and leaves with a row in each slot that isn't empty.
-use Rattle.std.specs.Prelude.{Bool, ◌==◌, nat_lt, Option, None, Some, Result, Ok, Err, if◌then◌else◌, ◌≡◌, ℕ, ◌+◌, List, [], ◌∷◌, ◌++◌, length, drop, slice_index_or}
+use Rattle.std.specs.Prelude.{Bool, ◌==◌, nat_lt, Option, None, Some, Result, Ok, Err, if◌then◌else◌, ℕ, ◌+◌, List, [], ◌∷◌, ◌++◌, length, drop, slice_index_or}
 use Rattle.page_base.specs.declared.column.Column.{Column}
 use Rattle.page_base.specs.declared.numbers.PageId.{PageId}
 use Rattle.page_fmt.specs.Seen.{SlotsAt}

@@ -1,6 +1,5 @@
 -- What a plan of a heap promises: the table of rows that it leaves, and the leaf and slot of each row.
 use Rattle.std.specs.Prelude.{Bool, ◌≡◌, ℕ, if◌then◌else◌, List, [], ◌∷◌, map}
-use Rattle.std.specs.List.{AllByRecursion}
 use Rattle.page_base.specs.declared.column.Column.{Column}
 use Rattle.page_base.specs.declared.numbers.PageId.{PageId}
 use Rattle.page_base.specs.declared.value.Value.{Value}

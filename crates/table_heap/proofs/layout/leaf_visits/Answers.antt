@@ -1,7 +1,6 @@
-use Rattle.std.proofs.Common.{◌≡◌, ◌<◌, ◌≤◌, ℕ, List, [], length, get_or, ap, sym, ◌∙◌, refl, arith, Some, None}
-use Rattle.page_fmt.specs.Seen.{Looked}
+use Rattle.std.proofs.Common.{◌≡◌, ◌<◌, [], length, get_or, ap, sym, ◌∙◌, refl, arith, Some}
 use Rattle.table_walk.specs.Addresses.{page_at}
-use Rattle.table_heap.proofs.HeapLemmas.{leaves_more, leaves_bad, leaves_end}
+use Rattle.table_heap.proofs.HeapLemmas.{leaves_more}
 use Rattle.table_heap.proofs.layout.leaf_visits.Goals as goal
 
 pub loop-j-preserved : goal.loop-j-preserved

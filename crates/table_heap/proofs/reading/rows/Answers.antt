@@ -1,5 +1,4 @@
-use Rattle.std.proofs.Common.{◌≡◌, List, [], ap, sym, ◌∙◌, subst}
-use Rattle.page_fmt.specs.Seen.{SlotsAt}
+use Rattle.std.proofs.Common.{[], sym, subst}
 use Rattle.table_walk.specs.Walk.{IsSeenWalk}
 use Rattle.table_walk.specs.Tables.{IsBadRow}
 use Rattle.table_walk.specs.Answers.{IsAt}

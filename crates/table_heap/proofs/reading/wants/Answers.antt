@@ -1,5 +1,4 @@
-use Rattle.std.proofs.Common.{◌≡◌, List, ap, sym, ◌∙◌, subst}
-use Rattle.page_fmt.specs.Seen.{SlotsAt}
+use Rattle.std.proofs.Common.{subst}
 use Rattle.table_walk.specs.Walk.{IsBad}
 use Rattle.table_walk.specs.Answers.{Tells, IsAt}
 use Rattle.table_walk.proofs.Exits.{if_ok, if_err}
