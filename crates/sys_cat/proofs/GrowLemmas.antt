@@ -1,18 +1,17 @@
 -- Columns that can grow are the first ones of a table definition, and only those.
-use Rattle.std.proofs.Common.{◌≡◌, ◌≢◌, ℕ, zero, suc, ◌+◌, ◌-◌, ◌<◌, ◌≤◌, max, Bool, true, false, cond, ◌==◌, ◌&&◌, ◌||◌, not, List, [], ◌∷◌, ◌++◌, length, map, get_or, refl, ap, sym, ◌∙◌, subst, arith, inl, inr, append_assoc, length-append, eq-eqb, eqb-true}
+use Rattle.std.proofs.Common.{◌≡◌, ℕ, zero, suc, ◌+◌, ◌-◌, ◌<◌, ◌≤◌, Bool, true, false, cond, ◌==◌, ◌&&◌, ◌||◌, not, List, [], ◌∷◌, ◌++◌, length, map, get_or, refl, ap, sym, ◌∙◌, arith, inl, inr, append_assoc, length-append, eq-eqb, eqb-true}
 use Rattle.std.specs.Prelude.{nat_le}
-use Rattle.std.specs.List.{list_all, list_any, range_with_len, AllByRecursion}
+use Rattle.std.specs.List.{list_all, list_any, range_with_len}
 use Rattle.std.specs.Str.{bytes_eq}
 use Rattle.std.proofs.lemmas.Bool.{and_parts, cases_lt}
 use Rattle.std.proofs.lemmas.List.{append-nil, map-append, length-map}
 use Rattle.std.proofs.lemmas.List.Folds.{list_all-append, list_any-append}
 use Rattle.page_base.specs.declared.column.Column.{Column}
 use Rattle.page_base.specs.declared.column.ColType.TheVariants as types
-use Rattle.page_base.specs.Name.{IsLowName}
 use Rattle.plain_model.specs.Sound.{are_distinct, is_column, has_place, is_definition}
 use Rattle.sys_cat.specs.Growing.{count_at, key_size, top, span, are_once, names_fit, places_fit, can_grow, is_whole}
 use Rattle.sys_cat.specs.Lists.{AreNamed}
-use Rattle.sys_cat.proofs.CountLemmas.{above, total, above_next, size_is, none_behind, top_within, total_ones, total_within, ones, missing, in_range, of_range, le_is, is_le, once_each, each_once, count-append, size-append, top-append, few_keys}
+use Rattle.sys_cat.proofs.CountLemmas.{total, above_next, size_is, none_behind, top_within, total_ones, total_within, ones, missing, in_range, of_range, le_is, is_le, once_each, each_once, count-append, size-append, top-append, few_keys}
 use Rattle.sys_cat.proofs.FreshLemmas.{fresh, fresh_name, none_fresh}
 
 pub both : (a b : Bool) → a ≡ true → b ≡ true → (a && b) ≡ true

@@ -1,13 +1,11 @@
 -- Rows of six values, and rows of columns one after the other.
-use Rattle.std.proofs.Common.{◌≡◌, ◌≢◌, ℕ, zero, suc, ◌+◌, ◌*◌, ◌<◌, ◌≤◌, Bool, true, false, cond, List, [], ◌∷◌, ◌++◌, length, take, get_or, refl, ap, sym, ◌∙◌, subst, arith}
-use Rattle.std.specs.Prelude.{ℤ, pos, Option, None, Some}
+use Rattle.std.proofs.Common.{◌≡◌, ℕ, suc, ◌+◌, ◌<◌, List, [], ◌∷◌, ◌++◌, length, take, get_or, refl, ap, sym, ◌∙◌, arith}
+use Rattle.std.specs.Prelude.{pos}
 use Rattle.std.proofs.lemmas.List.{take_more}
 use Rattle.page_base.specs.declared.column.Column.{Column}
-use Rattle.page_base.specs.declared.column.ColType.{ColType}
-use Rattle.page_base.specs.declared.column.ColType.TheVariants as types
 use Rattle.page_base.specs.declared.value.Value.{Value}
-use Rattle.page_base.specs.declared.value.Value.TheVariants.{Null, Int, Text, Big}
-use Rattle.sys_cat.specs.Rows.{row_of, type_number, type_length, key_number, column_row, column_rows}
+use Rattle.page_base.specs.declared.value.Value.TheVariants.{Null, Int, Text}
+use Rattle.sys_cat.specs.Rows.{row_of, column_row, column_rows}
 
 pub six : (row : List Value) → length row ≡ 6 → row ≡ get_or row 0 Null ∷ get_or row 1 Null ∷ get_or row 2 Null ∷ get_or row 3 Null ∷ get_or row 4 Null ∷ get_or row 5 Null ∷ []
 six [] h = absurd (omega arith)

@@ -1,16 +1,13 @@
 -- The rows of tables can be cut in one way only.
-use Rattle.std.proofs.Common.{◌≡◌, ◌≢◌, ℕ, zero, suc, ◌+◌, ◌*◌, ◌<◌, ◌≤◌, Bool, true, false, cond, List, [], ◌∷◌, ◌++◌, length, take, drop, get_or, refl, ap, sym, ◌∙◌, subst, arith, append_assoc}
-use Rattle.std.specs.List.{flat_map, AllByRecursion}
+use Rattle.std.proofs.Common.{◌≡◌, ℕ, suc, ◌+◌, ◌*◌, ◌≤◌, Bool, true, false, cond, List, [], ◌∷◌, ◌++◌, length, drop, get_or, refl, ap, sym, ◌∙◌, arith, append_assoc}
+use Rattle.std.specs.List.{flat_map}
 use Rattle.std.proofs.lemmas.List.{append-nil}
 use Rattle.page_base.specs.declared.column.Column.{Column}
 use Rattle.page_base.specs.declared.column.ColType.{ColType}
 use Rattle.page_base.specs.declared.column.ColType.TheVariants as types
 use Rattle.page_base.specs.declared.value.Value.{Value}
-use Rattle.page_base.specs.declared.value.Value.TheVariants.{Null, Int, Text, Big}
 use Rattle.sys_cat.specs.declared.desc.TableDesc.{TableDesc}
 use Rattle.sys_cat.specs.Rows.{row_of, type_number, type_length, key_number, table_row, column_row, column_rows, rows_of}
-use Rattle.sys_cat.specs.Lists.{IsDesc}
-use Rattle.sys_cat.specs.Reading.{Stops}
 
 abbrev pub Rows : Type 0
 Rows = List (List Value)

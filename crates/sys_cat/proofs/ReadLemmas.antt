@@ -1,5 +1,5 @@
 -- Tables read one after the other, and the first row that is wrong.
-use Rattle.std.proofs.Common.{◌≡◌, ◌≢◌, ℕ, zero, suc, ◌+◌, ◌-◌, ◌*◌, ◌<◌, ◌≤◌, Bool, true, false, cond, ◌==◌, ◌&&◌, not, List, [], ◌∷◌, ◌++◌, length, take, drop, map, get_or, refl, ap, sym, ◌∙◌, subst, arith, append_assoc, length-append, nat_eq, inl, inr}
+use Rattle.std.proofs.Common.{◌≡◌, ◌≢◌, ℕ, zero, suc, ◌+◌, ◌-◌, ◌*◌, ◌<◌, ◌≤◌, Bool, true, false, cond, ◌==◌, ◌&&◌, not, List, [], ◌∷◌, ◌++◌, length, take, drop, map, get_or, refl, ap, sym, ◌∙◌, subst, arith, append_assoc, length-append, nat_eq}
 use Rattle.std.specs.Prelude.{Option, None, MatchOption}
 use Rattle.std.specs.List.{flat_map, list_all, AllByRecursion, IsDistinct}
 use Rattle.std.specs.List.Sorted.{IsStrictlySortedBy}
@@ -21,12 +21,12 @@ use Rattle.sys_cat.specs.declared.desc.TableDesc.{TableDesc}
 use Rattle.sys_cat.specs.Rows.{type_length, table_row, column_row, column_rows, rows_of}
 use Rattle.sys_cat.specs.Lines.{IsLine, table_line, column_line}
 use Rattle.sys_cat.specs.Lists.{IsHead, AreNamed, IsDesc, AreDescs, AreTables, Begin, IsFirstWrong}
-use Rattle.sys_cat.specs.Growing.{top, span, key_size, can_grow, is_whole}
+use Rattle.sys_cat.specs.Growing.{span, key_size, can_grow, is_whole}
 use Rattle.sys_cat.specs.Reading.{may_follow, Stops, AreLongest}
 use Rattle.sys_cat.proofs.CountLemmas.{top-append, le_is, total_within}
-use Rattle.sys_cat.proofs.GrowLemmas.{both, Defined, defined, grows, whole_is, is_whole_definition, front_grows, rest_of, Rest, named_append, size_within}
+use Rattle.sys_cat.proofs.GrowLemmas.{both, defined, grows, whole_is, is_whole_definition, front_grows, rest_of, Rest, named_append, size_within}
 use Rattle.sys_cat.proofs.LineLemmas.{column_rows-append}
-use Rattle.sys_cat.proofs.ParseLemmas.{Rows, head_is, tail_is, no_cons, column_same, no_column, front, SameHead, LastGoesOn, Extends, parse, rows_determine}
+use Rattle.sys_cat.proofs.ParseLemmas.{Rows, head_is, no_cons, column_same, front, LastGoesOn, Extends, parse}
 
 -- LINES
 

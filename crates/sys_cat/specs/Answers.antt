@@ -1,5 +1,5 @@
 -- What is answered for the rows of table 0.
-use Rattle.std.specs.Prelude.{⊤, ◌≡◌, ℕ, List, Result, Ok, Err}
+use Rattle.std.specs.Prelude.{⊤, ◌≡◌, List, Result, Ok, Err}
 use Rattle.page_base.specs.declared.value.Value.{Value}
 use Rattle.sys_cat.specs.declared.desc.TableDesc.{TableDesc}
 use Rattle.sys_cat.specs.declared.desc.DescRefusal.{DescRefusal}

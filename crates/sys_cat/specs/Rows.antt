@@ -1,5 +1,5 @@
 -- The rows of table 0 that tell of one table: one for the table, and one for each of its columns.
-use Rattle.std.specs.Prelude.{ℕ, pos, ◌+◌, ◌*◌, Bool, if◌then◌else◌, List, [], ◌∷◌}
+use Rattle.std.specs.Prelude.{ℕ, pos, ◌+◌, ◌*◌, if◌then◌else◌, List, [], ◌∷◌}
 use Rattle.page_base.specs.declared.column.Column.{Column}
 use Rattle.page_base.specs.declared.column.ColType.{ColType}
 use Rattle.page_base.specs.declared.column.ColType.TheVariants as types

@@ -1,5 +1,4 @@
-use Rattle.std.proofs.Common.{◌≡◌, ◌≤◌, ◌<◌, ◌+◌, arith, ap, subst, sym}
-use Rattle.sys_cat.specs.Growing.{count_at}
+use Rattle.std.proofs.Common.{arith}
 use Rattle.sys_cat.proofs.CountLemmas.{once_more, once_not}
 use Rattle.sys_cat.proofs.growing.are_once.Goals as goal
 

@@ -1,4 +1,4 @@
-use Rattle.std.proofs.Common.{◌∙◌, ◌≡◌, length, arith, sym}
+use Rattle.std.proofs.Common.{◌∙◌, ◌≡◌, length, sym}
 use Rattle.page_base.specs.declared.value.Value.TheVariants.{Null}
 use Rattle.sys_cat.specs.Lines.{text_bytes}
 use Rattle.sys_cat.proofs.LineLemmas.{row_is}

@@ -1,4 +1,4 @@
-use Rattle.std.proofs.Common.{◌≡◌, ◌<◌, ◌∙◌, List, true, sym, ap, arith}
+use Rattle.std.proofs.Common.{◌≡◌, ◌∙◌, List, true, sym, ap, arith}
 use Rattle.sys_cat.specs.declared.desc.TableDesc.{TableDesc}
 use Rattle.sys_cat.specs.Lists.{has_number}
 use Rattle.sys_cat.proofs.NumberLemmas.{from_less, small_number}

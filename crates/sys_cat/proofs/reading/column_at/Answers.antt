@@ -1,5 +1,3 @@
-use Rattle.std.proofs.Common.{◌≡◌, ◌∙◌, sym, subst}
-use Rattle.std.specs.Prelude.{MatchOption}
 use Rattle.sys_cat.specs.Lines.{column_line}
 use Rattle.sys_cat.proofs.ReadLemmas.{column_line_is, at_none}
 use Rattle.sys_cat.proofs.reading.column_at.Goals as goal

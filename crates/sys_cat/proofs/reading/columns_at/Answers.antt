@@ -1,5 +1,4 @@
-use Rattle.std.proofs.Common.{◌≡◌, ◌+◌, ◌++◌, ◌∷◌, [], ◌∙◌, List, ℕ, sym, ap, subst, length, length-append, arith, true, false}
-use Rattle.page_base.specs.declared.column.Column.{Column}
+use Rattle.std.proofs.Common.{◌≡◌, ◌+◌, ◌++◌, ◌∷◌, [], ◌∙◌, sym, ap, subst, length, length-append, arith, true, false}
 use Rattle.sys_cat.specs.Growing.{can_grow}
 use Rattle.sys_cat.specs.Rows.{column_row}
 use Rattle.sys_cat.specs.Reading.{AreLongest}

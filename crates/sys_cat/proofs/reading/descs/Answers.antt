@@ -1,11 +1,8 @@
-use Rattle.std.proofs.Common.{◌≡◌, ◌<◌, ◌≤◌, ◌+◌, ◌∙◌, List, ℕ, sym, ap, subst, length, refl, arith, true, false}
-use Rattle.page_base.specs.declared.column.Column.{Column}
-use Rattle.page_base.specs.declared.value.Value.{Value}
+use Rattle.std.proofs.Common.{◌≡◌, ◌<◌, ◌≤◌, ◌+◌, ◌∙◌, List, sym, ap, subst, length, refl, arith, true, false}
 use Rattle.sys_cat.specs.declared.desc.TableDesc.{TableDesc}
 use Rattle.sys_cat.specs.Growing.{is_whole}
-use Rattle.sys_cat.specs.Lists.{AreTables, IsFirstWrong}
-use Rattle.sys_cat.specs.Reading.{may_follow, AreLongest}
-use Rattle.sys_cat.specs.Rows.{table_row}
+use Rattle.sys_cat.specs.Lists.{IsFirstWrong}
+use Rattle.sys_cat.specs.Reading.{may_follow}
 use Rattle.sys_cat.proofs.ParseLemmas.{rows_determine}
 use Rattle.sys_cat.proofs.ReadLemmas.{State, Took, state_begin, wrong_head, took_from, state_more, wrong_end, state_end}
 use Rattle.sys_cat.proofs.reading.descs.Goals as goal

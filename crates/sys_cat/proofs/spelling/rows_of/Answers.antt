@@ -1,4 +1,4 @@
-use Rattle.std.proofs.Common.{◌≡◌, ◌<◌, ◌∙◌, length, take, get_or, arith, ap, sym, subst, List}
+use Rattle.std.proofs.Common.{◌≡◌, ◌<◌, ◌∙◌, length, get_or, arith, ap, subst, List}
 use Rattle.std.proofs.lemmas.List.{length-take-le}
 use Rattle.page_base.specs.declared.column.Column.{Column}
 use Rattle.sys_cat.specs.Rows.{table_row}

@@ -1,4 +1,4 @@
-use Rattle.std.proofs.Common.{◌<◌, List, arith, subst, sym}
+use Rattle.std.proofs.Common.{◌<◌, arith, subst, sym}
 use Rattle.std.specs.Prelude.{All}
 use Rattle.std.proofs.lemmas.List.Elements.{All-push}
 use Rattle.sys_cat.specs.declared.desc.TableDesc.{TableDesc}
