@@ -1,11 +1,10 @@
 -- One page's edits, those that don't grow first, go in turn and make the new page.
-use Rattle.std.proofs.Common.{refl, ◌≡◌, ◌≢◌, ℕ, zero, suc, ◌+◌, ◌-◌, ◌*◌, ◌<◌, ◌≤◌, List, [], ◌∷◌, ◌++◌, length, get_or, set, map, ap, sym, ◌∙◌, subst, arith, Bool, true, false, not, cond, ◌&&◌, ◌==◌, nat_lt, eq-eqb, eqb-true, inl, inr, ◌⊎◌, append_assoc}
+use Rattle.std.proofs.Common.{refl, ◌≡◌, ◌≢◌, ℕ, zero, suc, ◌+◌, ◌-◌, ◌*◌, ◌<◌, ◌≤◌, List, [], ◌∷◌, ◌++◌, length, get_or, set, map, ap, sym, ◌∙◌, subst, arith, Bool, true, false, not, cond, nat_lt, inl, inr, ◌⊎◌, append_assoc}
 use Rattle.std.proofs.lemmas.Bool.{cases_eq, cases_lt, lt-ltb, le-ltb}
 use Rattle.std.proofs.lemmas.List.{get_or_past, append-nil}
-use Rattle.page_fmt.specs.Edits.{edited, cleared, set_slot, slot_at}
+use Rattle.page_fmt.specs.Edits.{edited, set_slot, trimmed, before}
 use Rattle.page_fmt.specs.Spelling.{used, row_bytes, LastIsFull, FitsPage}
 use Rattle.page_fmt.proofs.CallerLemmas.{slot_at-edited_same, slot_at-edited_other}
-use Rattle.page_fmt.proofs.PaddingLemmas.{LastIsFull-trimmed}
 use Rattle.page_fmt.proofs.SlotLemmas.{LastIsFull-set_slot, length-set_slot, row_bytes-slot, get_or-set_slot_same}
 use Rattle.table_walk.specs.declared.plan.Edit.{Edit}
 use Rattle.table_walk.specs.declared.plan.Spot.{Spot}
@@ -15,6 +14,19 @@ use Rattle.table_walk.specs.Differences.{is_wanted, changes_at, page_changes, pa
 
 abbrev Slots : Type 0
 Slots = List (List ℕ)
+
+full_cons : (x : List ℕ) (ys : Slots) → x ≢ [] → LastIsFull ys → LastIsFull (x ∷ ys)
+full_cons x [] h l = h
+full_cons x (y ∷ ys) h l = l
+
+LastIsFull-trimmed : (xs : Slots) → LastIsFull (trimmed xs)
+LastIsFull-trimmed [] = tt
+LastIsFull-trimmed (x ∷ xs) = in_front x (trimmed xs) (LastIsFull-trimmed xs)
+  where
+    in_front : (x : List ℕ) (ys : Slots) → LastIsFull ys → LastIsFull (before x ys)
+    in_front [] [] l = l
+    in_front [] (y ∷ ys) l = l
+    in_front (b ∷ bs) ys l = full_cons (b ∷ bs) ys (λ e. let n : suc (length bs) ≡ 0 = ap length e in absurd (omega arith)) l
 
 LastIsFull-edited : (s : Slots) (i : ℕ) (x : List ℕ) → LastIsFull s → LastIsFull (edited s i x)
 LastIsFull-edited s i [] l = LastIsFull-trimmed (set s i [])

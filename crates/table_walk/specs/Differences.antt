@@ -1,5 +1,5 @@
 -- The edits that make one page of another: one for each slot that differs, those that don't grow before those that do.
-use Rattle.std.specs.Prelude.{Bool, false, true, not, nat_lt, if◌then◌else◌, Option, None, ◌≡◌, ◌≢◌, ℕ, zero, suc, ◌+◌, ◌<◌, ◌≤◌, List, [], ◌∷◌, ◌++◌, length, map, slice_index_or}
+use Rattle.std.specs.Prelude.{Bool, false, true, not, nat_lt, if◌then◌else◌, None, ◌≡◌, ◌≢◌, ℕ, zero, suc, ◌+◌, ◌<◌, ◌≤◌, List, [], ◌∷◌, ◌++◌, length, slice_index_or}
 use Rattle.std.specs.Str.{bytes_eq}
 use Rattle.page_fmt.specs.Edits.{edited, slot_at}
 use Rattle.page_fmt.specs.Spelling.{used}

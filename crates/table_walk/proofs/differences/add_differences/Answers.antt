@@ -1,4 +1,3 @@
-use Rattle.std.proofs.Common.{◌≡◌, sym}
 use Rattle.table_walk.proofs.EditLemmas.{adds_page}
 use Rattle.table_walk.proofs.Exits.{on_ok}
 use Rattle.table_walk.proofs.differences.add_differences.Goals as goal
