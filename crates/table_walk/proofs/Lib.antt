@@ -9,3 +9,4 @@ pub mod TableLemmas
 pub mod PlanLemmas
 pub mod AddressLemmas
 pub mod IndexLemmas
+pub mod EditLemmas

@@ -5,3 +5,4 @@ pub mod Answers
 pub mod Sought
 pub mod Plans
 pub mod Index
+pub mod Differences

@@ -2,6 +2,7 @@
 #![tactic(auto)]
 
 mod address;
+mod differences;
 mod find;
 mod index;
 mod key;
@@ -14,6 +15,7 @@ mod rows;
 mod visit;
 
 pub use address::{names_none, page_at};
+pub use differences::add_differences;
 pub use find::{Find, Wants};
 pub use key::{copy_row, key_of};
 pub use law::{
