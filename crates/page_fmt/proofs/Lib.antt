@@ -11,3 +11,4 @@ mod PutLemmas
 mod MovingLemmas
 mod SplicingLemmas
 mod CheckLemmas
+pub mod SeenLemmas

@@ -3,3 +3,4 @@ pub mod Content
 pub mod Edits
 pub mod Faults
 pub mod Places
+pub mod Seen

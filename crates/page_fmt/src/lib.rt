@@ -7,6 +7,7 @@ mod edits;
 mod moving;
 mod numbers;
 mod reading;
+mod seen;
 mod splicing;
 #[cfg(test)]
 mod tests;
@@ -14,3 +15,4 @@ mod tests;
 pub use checking::{BadPage, check};
 pub use edits::{NoRoom, clear_slot, put_slot};
 pub use reading::{slot, slots};
+pub use seen::Seen;

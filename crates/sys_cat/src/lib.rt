@@ -1,0 +1,18 @@
+//! Table 0: what its rows say of the other tables.
+#![tactic(auto)]
+
+mod desc;
+mod growing;
+mod law;
+mod line;
+mod number;
+mod reading;
+mod spelling;
+#[cfg(test)]
+mod tests;
+
+pub use desc::{DescList, DescRefusal, TableDesc};
+pub use law::rows_and_tables_determine_each_other;
+pub use number::next_number;
+pub use reading::descs;
+pub use spelling::rows_of;

@@ -1,0 +1,12 @@
+pub mod WalkLemmas
+pub mod Exits
+pub mod KeyLemmas
+pub mod OrderLemmas
+pub mod RowsLemmas
+pub mod GatherLemmas
+pub mod VisitLemmas
+pub mod TableLemmas
+pub mod PlanLemmas
+pub mod AddressLemmas
+pub mod IndexLemmas
+pub mod EditLemmas

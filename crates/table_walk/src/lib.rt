@@ -1,0 +1,30 @@
+//! What all layouts of a table share: the walk over its pages, its rows, and what a plan of edits promises.
+#![tactic(auto)]
+
+mod address;
+mod differences;
+mod find;
+mod index;
+mod key;
+mod law;
+mod layout;
+mod plan;
+mod refusal;
+mod row_map;
+mod rows;
+mod visit;
+
+pub use address::{names_none, page_at};
+pub use differences::add_differences;
+pub use find::{Find, Wants};
+pub use key::{copy_row, key_of};
+pub use law::{
+    addresses_are_read, plans_are_carried_on, plans_depend_on_owned_pages, rows_are_one,
+    rows_depend_on_owned_pages,
+};
+pub use layout::{Layout, Walked, walk, wants_of};
+pub use plan::{Edit, EditList, Plan, Spot};
+pub use refusal::SeenRefusal;
+pub use row_map::RowMap;
+pub use rows::rows_of;
+pub use visit::{Visit, is_leaf};
