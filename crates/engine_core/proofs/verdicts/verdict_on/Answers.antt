@@ -4,6 +4,6 @@ use Rattle.engine_core.proofs.verdicts.verdict_on.Goals as goal
 pub returns : goal.returns
 returns c = if_ok_more c.verdict_of.result c.verdict_of.ensures (λ verdict h. record {
   over = c.in_ok-read_table.field-0;
-  held = c.in_ok-read_table.ensures;
+  held = c.in_ok-read_table.ensures.table;
   is = h c.in_ok-read_table.field-0 c.in_ok-cols.ensures;
 })
