@@ -199,7 +199,7 @@ module _ (e : Run) (safe : Safe e) (i : ℕ) (next : HasNext e i) where
         | inl none ↦ subst Answer_comes (sym none) (memory_comes e.opening current seen (catalog v) ordered apart_now (Snap s) means_now (Select seeing.select) refl ne.1)
         | inr rows ↦ select_comes e.opening current seen (catalog v) ordered apart_now (Snap s) means_now seeing.select reply (subst (λ (x : Stmt). is_built x ≡ true) seeing.is seeing.built) refl refl ne.1
             (select_means seeing.select (copy (state e) current)
-                ∙ ap Replies (ap (λ (n : List ℕ). selected (Select seeing.select) n (copy (state e) current)) seeing.table ∙ ap (λ (x : Stmt). selected x name (copy (state e) current)) (sym seeing.is) ∙ sym rows))
+            ∙ ap Replies (ap (λ (n : List ℕ). selected (Select seeing.select) n (copy (state e) current)) seeing.table ∙ ap (λ (x : Stmt). selected x name (copy (state e) current)) (sym seeing.is) ∙ sym rows))
       ]
     ]
 

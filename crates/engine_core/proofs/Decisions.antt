@@ -205,7 +205,7 @@ module _ (opening : Opening) (v : Shown) (seen : Seen) (setting : Setting openin
           let h = subst IsHarmless (ap (λ (o : Option Message). unless_refused o (data_over (Select s) t).1) e ∙ is) (select_harmless s t) in
           decides_only opening opening.source opening.source v seen (Select s) (UnderTable s.table S reply) setting (select_stays s reply seen.source) tt (select_room v s reply h.0) h.1
           (reply_comes opening opening.source seen (snaps_of v) refl (Select s) s.table S (of_select s refl) reply (ap (shape_over (Select s)) there ∙ e)
-              (ap (λ (o : Option Table). (data_over (Select s) (unwrap_or o (record { cols = []; rows = finite.empty }))).1) there ∙ is))
+          (ap (λ (o : Option Table). (data_over (Select s) (unwrap_or o (record { cols = []; rows = finite.empty }))).1) there ∙ is))
 
   -- INSERT into no table
   pub insert_none : (i : InsertStmt) → is_built (Insert i) ≡ true → finite.get seen.source i.table ≡ None → IsDecision opening opening.source v seen (Insert i) (record { answer = UnderAll S (Msg (plain 208)); edits = [] })

@@ -58,9 +58,12 @@ stored-keyed cols fs t row is h = subst IsKeyed (sym is) (keyed_put keys_exact r
 pub stored-table : (cols : List Column) (es : Entries) (t : Table) (rows : List (List Value)) → stored cols es ≡ t → IsKeyed (stored cols es) → IsStrictlySortedBy key_cmp (map (λ e. e.0) es) → rows ≡ map (λ e. e.1) es → IsTable cols rows t
 stored-table cols es t rows is keyed sorted gives =
     let whole = table_of_itself t (subst IsKeyed is keyed) in
-    record { columns = sym (ap (λ (t : Table). t.cols) is); values = sym (gives ∙ stored-rows cols es t is sorted);
-        keys = subst (λ (cs : List Column). finite.keys t.rows ≡ map (key_of cs) rows) (sym (ap (λ (t : Table). t.cols) is))
-        (subst (λ (rs : List (List Value)). finite.keys t.rows ≡ map (key_of t.cols) rs) (sym (gives ∙ stored-rows cols es t is sorted)) whole.keys) }
+    record {
+      columns = sym (ap (λ (t : Table). t.cols) is);
+      values = sym (gives ∙ stored-rows cols es t is sorted);
+      keys = subst (λ (cs : List Column). finite.keys t.rows ≡ map (key_of cs) rows) (sym (ap (λ (t : Table). t.cols) is))
+          (subst (λ (rs : List (List Value)). finite.keys t.rows ≡ map (key_of t.cols) rs) (sym (gives ∙ stored-rows cols es t is sorted)) whole.keys);
+    }
 
 -- one more row is copied
 pub copied_more : (all list list' rest : List (List Value)) (row r : List Value) → all ≡ list ++ row ∷ rest → r ≡ row → list' ≡ list ++ r ∷ [] → all ≡ list' ++ rest

@@ -26,7 +26,7 @@ returns-in_default g c = λ opening seen setting.
     let h = c.requires.select in
     is_same opening opening.source c.args.pages.now seen c.args.stmt.now _ _ (c.only.ensures ∙ ap (λ (r : Reply). let d : Decision = record { answer = UnderAll S r; edits = [] } in d) c.refused.ensures)
     (as_select (λ stmt name. finite.get seen.source name ≡ None → IsDecision opening opening.source c.args.pages.now seen stmt (record { answer = UnderAll S (Msg (plain 208)); edits = [] })) c.args.stmt.now c.args.name.now h
-        (select_none opening c.args.pages.now seen setting h.select) (c.in_default.ensures.none seen.source setting.none.says))
+    (select_none opening c.args.pages.now seen setting h.select) (c.in_default.ensures.none seen.source setting.none.says))
 
 pub returns : goal.returns
 returns g c = λ opening seen setting.
@@ -41,10 +41,10 @@ returns g c = λ opening seen setting.
           let shape = subst (λ (v : Verdict). IsVerdict c.args.stmt.now f.0 v) w.in-Refused.is verdict in
           is_same opening opening.source c.args.pages.now seen c.args.stmt.now _ _ (c.only-2.ensures ∙ ap (λ (a : Answer). let d : Decision = record { answer = a; edits = [] } in d) w.answer-is)
           (as_select (λ stmt name. finite.get seen.source name ≡ Some f.0 → shape_over stmt (Some f.0) ≡ Some w.in-Refused.message → IsDecision opening opening.source c.args.pages.now seen stmt (record { answer = UnderAll S (Msg w.in-Refused.message); edits = [] }))
-              c.args.stmt.now c.args.name.now h (λ there e. select_refused opening c.args.pages.now seen setting h.select f.0 there w.in-Refused.message e) f.2 shape)
+          c.args.stmt.now c.args.name.now h (λ there e. select_refused opening c.args.pages.now seen setting h.select f.0 there w.in-Refused.message e) f.2 shape)
       | in-Does w ↦
           let does = subst (λ (v : Verdict). IsVerdict c.args.stmt.now f.0 v) w.in-Does.is verdict in
           is_same opening opening.source c.args.pages.now seen c.args.stmt.now _ _ (c.only-2.ensures ∙ ap (λ (a : Answer). let d : Decision = record { answer = a; edits = [] } in d) w.answer-is)
           (as_select (λ stmt name. finite.get seen.source name ≡ Some f.0 → shape_over stmt (Some f.0) ≡ None → (data_over stmt f.0).1 ≡ w.in-Does.effect.reply → IsDecision opening opening.source c.args.pages.now seen stmt (record { answer = UnderTable name S w.in-Does.effect.reply; edits = [] }))
-              c.args.stmt.now c.args.name.now h (λ there e is. select_does opening c.args.pages.now seen setting h.select f.0 there w.in-Does.effect.reply e is) f.2 does.0 (ap (λ (r : List Change × Reply). r.1) does.1))
+          c.args.stmt.now c.args.name.now h (λ there e is. select_does opening c.args.pages.now seen setting h.select f.0 there w.in-Does.effect.reply e is) f.2 does.0 (ap (λ (r : List Change × Reply). r.1) does.1))
     ]
