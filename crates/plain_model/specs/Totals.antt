@@ -61,7 +61,7 @@ abbrev pub aggregates_from : List Column → List (List Value) → ℕ → List 
 aggregates_from cols taken place [] = []
 aggregates_from cols taken place (sum ∷ sums) = aggregate cols taken place sum ∷ aggregates_from cols taken (place + 1) sums
 
--- one row, or 8115 at row 0 where an aggregate is outside its type
+-- one row, or 8115 with place 0 where an aggregate is outside its type
 abbrev pub totals_row : Option (List Value) → Reply
 totals_row None = Msg (at_place 8115 0)
 totals_row (Some values) = Rows (map shown values ∷ [])
