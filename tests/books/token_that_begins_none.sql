@@ -1,2 +1,2 @@
 :session 1
-USE shop;
+USE shop )

@@ -1,0 +1,2 @@
+:session 1
+USE shop;
