@@ -1,0 +1,3 @@
+mod TypeLemmas
+mod RowLemmas
+pub mod PutLemmas

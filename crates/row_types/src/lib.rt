@@ -1,0 +1,6 @@
+//! What the columns of a table keep of the rows that statements put into it.
+#![tactic(auto)]
+
+mod law;
+
+pub use law::rows_that_are_put_fit;
