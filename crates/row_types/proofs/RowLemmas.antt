@@ -1,7 +1,7 @@
 -- Rows whose values the columns keep, and that nothing refuses, fit the columns.
-use Rattle.std.proofs.Common.{◌≡◌, ℕ, Bool, true, false, not, List, [], ◌∷◌, map, refl, arith}
-use Rattle.std.specs.Prelude.{⊤, Option, Some, None, option_map, find, nat_lt}
-use Rattle.std.specs.List.{AllByRecursion, list_any}
+use Rattle.std.proofs.Common.{◌≡◌, Bool, true, false, not, List, [], ◌∷◌, map, refl, arith, ℕ, ◌&&◌, length, filter}
+use Rattle.std.specs.Prelude.{⊤, Option, Some, None, option_map, find, nat_lt, nat_le}
+use Rattle.std.specs.List.{AllByRecursion, list_all, list_any, range_with_len}
 use Rattle.std.specs.Str.{bytes_eq}
 use Rattle.std.proofs.lemmas.Bool.{and_parts, or_parts}
 use Rattle.std.proofs.lemmas.Bool.Decides.{nat_tests}
@@ -14,7 +14,7 @@ use Rattle.page_base.specs.declared.value.Value.TheVariants.{Null, Int, Big, Tex
 use Rattle.plain_model.specs.Messages.{first_that}
 use Rattle.plain_model.specs.Outcomes.{all_of}
 use Rattle.plain_model.specs.Sizes.{size_of_row}
-use Rattle.plain_model.specs.Sound.{are_distinct}
+use Rattle.plain_model.specs.Sound.{are_distinct, is_column, has_place, is_definition}
 use Rattle.plain_model.specs.Storing.{is_longer_than, lacks, overflows, some_cell, row_fault}
 use Rattle.row_fmt.specs.Rows.{IsOfKind, MayStand, FitsColumns}
 use Rattle.row_types.proofs.TypeLemmas.{IsKept, of_some}
@@ -39,13 +39,13 @@ all_kept f (c ∷ cols) row each e = first (all_kept f cols) (f c) refl e
     first later None is e = absurd (cc)
     first later (Some v) is e = rest v is (all_of (map f cols)) refl (λ more all. later more each.1 all) e
 
+pub not_false : (b : Bool) → not b ≡ false → b ≡ true
+not_false true e = refl
+not_false false e = absurd (cc)
+
 -- a kept value that isn't lacking and no text that is too long may stand in its column
 kept_stands : (c : Column) (v : Value) → IsKept c.kind v → lacks c v ≡ false → overflows c v ≡ false → MayStand c v
-kept_stands c Null h there short = may c.nullable there
-  where
-    may : (b : Bool) → not b ≡ false → b ≡ true
-    may true e = refl
-    may false e = absurd (cc)
+kept_stands c Null h there short = not_false c.nullable there
 kept_stands c (Int n) h there short = h
 kept_stands c (Big n) h there short = h
 kept_stands c (Text bytes) h there short = text c.kind h short
@@ -79,7 +79,7 @@ row_fits cols row h e =
 
 -- ---- the columns of a table have different names
 
-same_name : (n : List ℕ) → bytes_eq n n ≡ true
+pub same_name : (n : List ℕ) → bytes_eq n n ≡ true
 same_name n = (bytes_eq-Decides n n).1 refl
 
 -- the first column of its name is it
@@ -93,12 +93,23 @@ first_behind x all (c ∷ cols) others h =
     let o = or_parts (bytes_eq x.name c.name) (list_any (bytes_eq x.name) (map (λ (c : Column). c.name) cols)) others in
     ((rw o.0 h.0), first_behind x all cols o.1 h.1)
 
-pub each_first : (cols : List Column) → are_distinct (map (λ c. c.name) cols) ≡ true → AllByRecursion (IsFirst cols) cols
+pub absent : (b : Bool) → not b ≡ true → b ≡ false
+absent true e = absurd (cc)
+absent false e = refl
+
+each_first : (cols : List Column) → are_distinct (map (λ c. c.name) cols) ≡ true → AllByRecursion (IsFirst cols) cols
 each_first [] h = tt
 each_first (x ∷ cols) h =
     let d = and_parts (not (list_any (bytes_eq x.name) (map (λ (c : Column). c.name) cols))) (are_distinct (map (λ (c : Column). c.name) cols)) h in
     ((rw (same_name x.name) refl), first_behind x cols cols (absent _ d.0) (each_first cols d.1))
-  where
-    absent : (b : Bool) → not b ≡ true → b ≡ false
-    absent true e = absurd (cc)
-    absent false e = refl
+
+-- those of a good definition
+pub definition_names : (cols : List Column) → is_definition cols ≡ true → are_distinct (map (λ c. c.name) cols) ≡ true
+definition_names cols h =
+    let size : ℕ = length (filter (λ (c : Column). nat_le 1 c.key) cols) in
+    let keys : Bool = nat_le 1 size && (nat_le size 16 && list_all (has_place cols) (range_with_len 1 size)) in
+    let few = and_parts (nat_le (length cols) 64) (are_distinct (map (λ (c : Column). c.name) cols) && (list_all is_column cols && keys)) h in
+    (and_parts (are_distinct (map (λ (c : Column). c.name) cols)) (list_all is_column cols && keys) few.1).0
+
+pub definition_firsts : (cols : List Column) → is_definition cols ≡ true → AllByRecursion (IsFirst cols) cols
+definition_firsts cols h = each_first cols (definition_names cols h)

@@ -162,14 +162,14 @@ first_stands p (x ∷ cols) (v ∷ row) c fits e = chosen (first_stands p cols r
         let next : suc (position_or_len p cols) ≡ 1 + position_or_len p cols = omega arith in
         subst (λ (m : ℕ). MayStand c (slice_index_or (v ∷ row) m Null)) next (later e)
 
-fitting_length : (cols : List Column) (row : List Value) → FitsColumns cols row → length row ≡ length cols
+pub fitting_length : (cols : List Column) (row : List Value) → FitsColumns cols row → length row ≡ length cols
 fitting_length [] [] h = refl
 fitting_length [] (v ∷ row) h = absurd h
 fitting_length (c ∷ cols) [] h = absurd h
 fitting_length (c ∷ cols) (v ∷ row) h = ap suc (fitting_length cols row h.1)
 
 -- there is none past the last
-cell_at_place : (row : List Value) (m n : ℕ) → length row ≡ n → cell_at row (cond (nat_lt m n) (Some m) None) ≡ slice_index_or row m Null
+pub cell_at_place : (row : List Value) (m n : ℕ) → length row ≡ n → cell_at row (cond (nat_lt m n) (Some m) None) ≡ slice_index_or row m Null
 cell_at_place row m n long = chosen (nat_lt m n) refl
   where
     chosen : (b : Bool) → nat_lt m n ≡ b → cell_at row (cond b (Some m) None) ≡ slice_index_or row m Null

@@ -1,11 +1,12 @@
 -- Rows that a statement puts fit the columns of its table.
-use Rattle.std.specs.Prelude.{◌≡◌, true, List, [], ◌∷◌, Some, None, All}
+use Rattle.std.specs.Prelude.{◌≡◌, true, List, Some, None, All}
 use Rattle.page_base.specs.declared.column.Column.{Column}
 use Rattle.plain_model.specs.declared.stmt.Stmt.{Stmt}
 use Rattle.plain_model.specs.Sound.{is_definition, is_sound}
 use Rattle.plain_model.specs.Statements.{shape_over, data_over}
-use Rattle.plain_model.specs.Tables.{Table, Change, Put, Cut, Add, Remove, rows_of}
+use Rattle.plain_model.specs.Tables.{Table, Change, rows_of}
 use Rattle.row_fmt.specs.Rows.{FitsColumns}
+use Rattle.row_types.specs.Puts.{Puts}
 
 -- a table whose columns are a good definition and hold its rows
 pub record IsFitting (t : Table) : Type 0 where
@@ -14,11 +15,7 @@ pub record IsFitting (t : Table) : Type 0 where
 
 -- each row that is put fits these columns
 abbrev pub PutsFit : List Column → List Change → Type 0
-PutsFit cols [] = Unit {0}
-PutsFit cols (Put table row ∷ changes) = FitsColumns cols row × PutsFit cols changes
-PutsFit cols (Cut table key ∷ changes) = PutsFit cols changes
-PutsFit cols (Add table added ∷ changes) = PutsFit cols changes
-PutsFit cols (Remove table ∷ changes) = PutsFit cols changes
+PutsFit cols changes = Puts (FitsColumns cols) changes
 
 -- what a sound statement that suits its table puts fits the table's columns
 abbrev pub PutsWhatFits : Type 0

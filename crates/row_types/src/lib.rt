@@ -3,4 +3,4 @@
 
 mod law;
 
-pub use law::rows_that_are_put_fit;
+pub use law::{rows_that_are_put_are_small, rows_that_are_put_fit, sizes_are_lengths};
