@@ -19,12 +19,12 @@ use Rattle.plain_model.specs.Storing.{kept_as, new_row_fault}
 use Rattle.plain_model.specs.Tables.{Table, key_of}
 use Rattle.plain_model.specs.Tree.{tree_of}
 use Rattle.plain_model.specs.Values.{value_of}
-use Rattle.row_types.proofs.TypeLemmas.{IsKept, null_kept}
+use Rattle.row_types.proofs.TypeLemmas.{Keeps, IsHeld, null_kept}
 use Rattle.row_types.proofs.RowLemmas.{AreKept, all_kept, none_first, IsFirst, definition_firsts, not_false}
 use Rattle.row_types.proofs.StandLemmas.{same, stand_kept}
 use Rattle.row_types.proofs.TakingLemmas.{Takes, TakesAll, after_takes, unless_takes, or_none}
 
-given_kept : (cols : List Column) (c : Column) (names : List (List ℕ)) (exprs : List Expr) (w : Value) → IsFirst cols c → may_all_stand cols names exprs ≡ true → list_all is_entry exprs ≡ true → option_and_then (kept_as c.kind) (given_for names exprs c.name) ≡ Some w → IsKept c.kind w
+given_kept : (cols : List Column) (c : Column) (names : List (List ℕ)) (exprs : List Expr) (w : Value) → IsFirst cols c → may_all_stand cols names exprs ≡ true → list_all is_entry exprs ≡ true → option_and_then (kept_as c.kind) (given_for names exprs c.name) ≡ Some w → Keeps IsHeld c.kind w
 given_kept cols c [] exprs w first may sound given = null_kept c.kind w given
 given_kept cols c (n ∷ names) [] w first may sound given = null_kept c.kind w given
 given_kept cols c (n ∷ names) (e ∷ exprs) w first may sound given =
@@ -33,34 +33,34 @@ given_kept cols c (n ∷ names) (e ∷ exprs) w first may sound given =
     let value = (and_parts (is_value_expr e) (each_leaf is_no_column (tree_of e)) s.0).0 in
     chosen m.0 value (given_kept cols c names exprs w first m.1 s.1) (bytes_eq n c.name) refl given
   where
-    chosen : may_stand cols n (type_in [] e) ≡ true → is_value_expr e ≡ true → (option_and_then (kept_as c.kind) (given_for names exprs c.name) ≡ Some w → IsKept c.kind w) → (b : Bool) → bytes_eq n c.name ≡ b → option_and_then (kept_as c.kind) (cond b (value_of [] [] (tree_of e)) (given_for names exprs c.name)) ≡ Some w → IsKept c.kind w
+    chosen : may_stand cols n (type_in [] e) ≡ true → is_value_expr e ≡ true → (option_and_then (kept_as c.kind) (given_for names exprs c.name) ≡ Some w → Keeps IsHeld c.kind w) → (b : Bool) → bytes_eq n c.name ≡ b → option_and_then (kept_as c.kind) (cond b (value_of [] [] (tree_of e)) (given_for names exprs c.name)) ≡ Some w → Keeps IsHeld c.kind w
     chosen m value later true is given = stand_kept cols c n [] [] e w first (same n c.name is) tt value m given
     chosen m value later false is given = later given
 
-each_given : (all cols : List Column) (names : List (List ℕ)) (exprs : List Expr) → may_all_stand all names exprs ≡ true → list_all is_entry exprs ≡ true → AllByRecursion (IsFirst all) cols → AllByRecursion (λ c. (v : Value) → option_and_then (kept_as c.kind) (given_for names exprs c.name) ≡ Some v → IsKept c.kind v) cols
+each_given : (all cols : List Column) (names : List (List ℕ)) (exprs : List Expr) → may_all_stand all names exprs ≡ true → list_all is_entry exprs ≡ true → AllByRecursion (IsFirst all) cols → AllByRecursion (λ c. (v : Value) → option_and_then (kept_as c.kind) (given_for names exprs c.name) ≡ Some v → Keeps IsHeld c.kind v) cols
 each_given all [] names exprs may sound firsts = tt
 each_given all (c ∷ cols) names exprs may sound firsts = ((λ v e. given_kept all c names exprs v firsts.0 may sound e), each_given all cols names exprs may sound firsts.1)
 
 -- a new row is kept by its columns
-new_kept : (cols : List Column) (names : List (List ℕ)) (exprs : List Expr) (row : List Value) → AllByRecursion (IsFirst cols) cols → may_all_stand cols names exprs ≡ true → list_all is_entry exprs ≡ true → new_row names cols exprs ≡ Some row → AreKept cols row
-new_kept cols names exprs row firsts may sound e = all_kept _ cols row (each_given cols cols names exprs may sound firsts) e
+new_kept : (cols : List Column) (names : List (List ℕ)) (exprs : List Expr) (row : List Value) → AllByRecursion (IsFirst cols) cols → may_all_stand cols names exprs ≡ true → list_all is_entry exprs ≡ true → new_row names cols exprs ≡ Some row → AreKept IsHeld cols row
+new_kept cols names exprs row firsts may sound e = all_kept IsHeld _ cols row (each_given cols cols names exprs may sound firsts) e
 
 -- ---- rows in turn
 
 -- a new row that is taken, of those that the columns keep
 abbrev pub IsNew : List Column → List Value → Type 0
-IsNew cols row = AreKept cols row × (new_row_fault cols row ≡ None)
+IsNew cols row = AreKept IsHeld cols row × (new_row_fault cols row ≡ None)
 
-inserted_takes : (cols : List Column) (keys : List (List Value)) (new : Option (List Value)) → ((row : List Value) → new ≡ Some row → AreKept cols row) → Takes (IsNew cols) (inserted_row cols keys new)
+inserted_takes : (cols : List Column) (keys : List (List Value)) (new : Option (List Value)) → ((row : List Value) → new ≡ Some row → AreKept IsHeld cols row) → Takes (IsNew cols) (inserted_row cols keys new)
 inserted_takes cols keys None h = tt
 inserted_takes cols keys (Some row) h = unless_takes (IsNew cols) row (fault_among cols keys row) (λ none. (h row refl, (or_none (new_row_fault cols row) (key_clash keys (key_of cols row)) none).0))
 
-inserted_all : (cols : List Column) (keys : List (List Value)) (place : ℕ) (news : List (Option (List Value))) → AllByRecursion (λ new. (row : List Value) → new ≡ Some row → AreKept cols row) news → TakesAll (IsNew cols) (inserted_from cols keys place news)
+inserted_all : (cols : List Column) (keys : List (List Value)) (place : ℕ) (news : List (Option (List Value))) → AllByRecursion (λ new. (row : List Value) → new ≡ Some row → AreKept IsHeld cols row) news → TakesAll (IsNew cols) (inserted_from cols keys place news)
 inserted_all cols keys place [] h = tt
 inserted_all cols keys place (new ∷ news) h =
     after_takes (IsNew cols) place (inserted_row cols keys new) _ (inserted_takes cols keys new h.0) (inserted_all cols (with_taken cols keys (inserted_row cols keys new)) (place + 1) news h.1)
 
-each_new : (cols : List Column) (names : List (List ℕ)) (rows : List (List Expr)) → AllByRecursion (IsFirst cols) cols → list_all (may_all_stand cols names) rows ≡ true → list_all (list_all is_entry) rows ≡ true → AllByRecursion (λ new. (row : List Value) → new ≡ Some row → AreKept cols row) (map (new_row names cols) rows)
+each_new : (cols : List Column) (names : List (List ℕ)) (rows : List (List Expr)) → AllByRecursion (IsFirst cols) cols → list_all (may_all_stand cols names) rows ≡ true → list_all (list_all is_entry) rows ≡ true → AllByRecursion (λ new. (row : List Value) → new ≡ Some row → AreKept IsHeld cols row) (map (new_row names cols) rows)
 each_new cols names [] firsts may sound = tt
 each_new cols names (exprs ∷ rows) firsts may sound =
     let m = and_parts (may_all_stand cols names exprs) (list_all (may_all_stand cols names) rows) may in

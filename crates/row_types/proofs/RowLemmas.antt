@@ -17,25 +17,25 @@ use Rattle.plain_model.specs.Sizes.{size_of_row}
 use Rattle.plain_model.specs.Sound.{are_distinct, is_column, has_place, is_definition}
 use Rattle.plain_model.specs.Storing.{is_longer_than, lacks, overflows, some_cell, row_fault}
 use Rattle.row_fmt.specs.Rows.{IsOfKind, MayStand, FitsColumns}
-use Rattle.row_types.proofs.TypeLemmas.{IsKept, of_some}
+use Rattle.row_types.proofs.TypeLemmas.{IsKept, Keeps, of_some}
 
--- a value for each column, as the column keeps it
-abbrev pub AreKept : List Column → List Value → Type 0
-AreKept [] [] = ⊤
-AreKept [] (v ∷ row) = ⊥
-AreKept (c ∷ cols) [] = ⊥
-AreKept (c ∷ cols) (v ∷ row) = IsKept c.kind v × AreKept cols row
+-- a value for each column, as the column keeps it, of each of which R holds
+abbrev pub AreKept : (Value → Type 0) → List Column → List Value → Type 0
+AreKept R [] [] = ⊤
+AreKept R [] (v ∷ row) = ⊥
+AreKept R (c ∷ cols) [] = ⊥
+AreKept R (c ∷ cols) (v ∷ row) = Keeps R c.kind v × AreKept R cols row
 
 -- the values of all columns, each of them kept
-pub all_kept : (f : Column → Option Value) (cols : List Column) (row : List Value) → AllByRecursion (λ c. (v : Value) → f c ≡ Some v → IsKept c.kind v) cols → all_of (map f cols) ≡ Some row → AreKept cols row
-all_kept f [] row each e = of_some (AreKept []) [] row e tt
-all_kept f (c ∷ cols) row each e = first (all_kept f cols) (f c) refl e
+pub all_kept : (R : Value → Type 0) (f : Column → Option Value) (cols : List Column) (row : List Value) → AllByRecursion (λ c. (v : Value) → f c ≡ Some v → Keeps R c.kind v) cols → all_of (map f cols) ≡ Some row → AreKept R cols row
+all_kept R f [] row each e = of_some (AreKept R []) [] row e tt
+all_kept R f (c ∷ cols) row each e = first (all_kept R f cols) (f c) refl e
   where
-    rest : (v : Value) → f c ≡ Some v → (o : Option (List Value)) → all_of (map f cols) ≡ o → ((more : List Value) → o ≡ Some more → AreKept cols more) → option_map (λ more. v ∷ more) o ≡ Some row → AreKept (c ∷ cols) row
+    rest : (v : Value) → f c ≡ Some v → (o : Option (List Value)) → all_of (map f cols) ≡ o → ((more : List Value) → o ≡ Some more → AreKept R cols more) → option_map (λ more. v ∷ more) o ≡ Some row → AreKept R (c ∷ cols) row
     rest v is None all later e = absurd (cc)
-    rest v is (Some more) all later e = of_some (AreKept (c ∷ cols)) (v ∷ more) row e (each.0 v is, later more refl)
+    rest v is (Some more) all later e = of_some (AreKept R (c ∷ cols)) (v ∷ more) row e (each.0 v is, later more refl)
 
-    first : ((more : List Value) → AllByRecursion (λ c. (v : Value) → f c ≡ Some v → IsKept c.kind v) cols → all_of (map f cols) ≡ Some more → AreKept cols more) → (o : Option Value) → f c ≡ o → all_of (o ∷ map f cols) ≡ Some row → AreKept (c ∷ cols) row
+    first : ((more : List Value) → AllByRecursion (λ c. (v : Value) → f c ≡ Some v → Keeps R c.kind v) cols → all_of (map f cols) ≡ Some more → AreKept R cols more) → (o : Option Value) → f c ≡ o → all_of (o ∷ map f cols) ≡ Some row → AreKept R (c ∷ cols) row
     first later None is e = absurd (cc)
     first later (Some v) is e = rest v is (all_of (map f cols)) refl (λ more all. later more each.1 all) e
 
@@ -55,14 +55,14 @@ kept_stands c (Text bytes) h there short = text c.kind h short
     text kinds.Big h short = absurd h
     text (kinds.Text max) h short = record { short = grind (arith, nat_tests); each = h }
 
-row_stands : (cols : List Column) (row : List Value) → AreKept cols row → some_cell lacks cols row ≡ false → some_cell overflows cols row ≡ false → FitsColumns cols row
-row_stands [] [] h there short = tt
-row_stands [] (v ∷ row) h there short = absurd h
-row_stands (c ∷ cols) [] h there short = absurd h
-row_stands (c ∷ cols) (v ∷ row) h there short =
+row_stands : (R : Value → Type 0) (cols : List Column) (row : List Value) → AreKept R cols row → some_cell lacks cols row ≡ false → some_cell overflows cols row ≡ false → FitsColumns cols row
+row_stands R [] [] h there short = tt
+row_stands R [] (v ∷ row) h there short = absurd h
+row_stands R (c ∷ cols) [] h there short = absurd h
+row_stands R (c ∷ cols) (v ∷ row) h there short =
     let t = or_parts (lacks c v) (some_cell lacks cols row) there in
     let s = or_parts (overflows c v) (some_cell overflows cols row) short in
-    (kept_stands c v h.0 t.0 s.0, row_stands cols row h.1 t.1 s.1)
+    (kept_stands c v h.0.0 t.0 s.0, row_stands R cols row h.1 t.1 s.1)
 
 -- where none of some refusals applies, the first doesn't
 pub none_first : {X : Type 0} (b : Bool) (x : X) (rs : List (Bool × X)) → first_that ((b, x) ∷ rs) ≡ None → (b ≡ false) × (first_that rs ≡ None)
@@ -70,12 +70,12 @@ none_first true x rs e = absurd (cc)
 none_first false x rs e = (refl, e)
 
 -- a row that nothing refuses by itself
-pub row_fits : (cols : List Column) (row : List Value) → AreKept cols row → row_fault cols row ≡ None → FitsColumns cols row
-row_fits cols row h e =
+pub row_fits : (R : Value → Type 0) (cols : List Column) (row : List Value) → AreKept R cols row → row_fault cols row ≡ None → FitsColumns cols row
+row_fits R cols row h e =
     let long : List (Bool × ℕ) = (nat_lt 8060 (size_of_row row), 60015) ∷ [] in
     let there = none_first (some_cell lacks cols row) 515 ((some_cell overflows cols row, 60014) ∷ long) e in
     let short = none_first (some_cell overflows cols row) 60014 long there.1 in
-    row_stands cols row h there.0 short.0
+    row_stands R cols row h there.0 short.0
 
 -- ---- the columns of a table have different names
 

@@ -16,7 +16,7 @@ use Rattle.plain_model.specs.Tree.{tree_of}
 use Rattle.plain_model.specs.Types.{from_column, column_type, comparison_type}
 use Rattle.plain_model.specs.Values.{value_of, both}
 use Rattle.row_fmt.specs.Rows.{FitsColumns}
-use Rattle.row_types.proofs.TypeLemmas.{IsKept, expr_kept}
+use Rattle.row_types.proofs.TypeLemmas.{Keeps, IsHeld, expr_kept}
 use Rattle.row_types.proofs.RowLemmas.{IsFirst}
 
 -- names of the same bytes are one name
@@ -35,7 +35,7 @@ prints e h =
     (and_parts (nat_le (levels (tree_of e)) 100) (each_leaf has_printable_text (tree_of e)) few).1
 
 -- an expression that may stand under this name is kept by the first column of the name
-pub stand_kept : (cols : List Column) (c : Column) (name : List ℕ) (over : List Column) (row : List Value) (e : Expr) (w : Value) → IsFirst cols c → name ≡ c.name → FitsColumns over row → is_value_expr e ≡ true → may_stand cols name (type_in over e) ≡ true → option_and_then (kept_as c.kind) (value_of over row (tree_of e)) ≡ Some w → IsKept c.kind w
+pub stand_kept : (cols : List Column) (c : Column) (name : List ℕ) (over : List Column) (row : List Value) (e : Expr) (w : Value) → IsFirst cols c → name ≡ c.name → FitsColumns over row → is_value_expr e ≡ true → may_stand cols name (type_in over e) ≡ true → option_and_then (kept_as c.kind) (value_of over row (tree_of e)) ≡ Some w → Keeps IsHeld c.kind w
 stand_kept cols c name over row e w first is fits sound may given =
     let column : column_type cols name ≡ Some (from_column c.kind) = ap (column_type cols) is ∙ column_typed cols c first in
     let stands = subst (λ (o : Option ExprType). is_some (both comparison_type o (type_in over e)) ≡ true) column may in

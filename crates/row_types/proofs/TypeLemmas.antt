@@ -1,8 +1,9 @@
 -- The value of an expression is one of its type.
 use Rattle.std.proofs.Common.{◌≡◌, ℕ, suc, ◌+◌, ◌≤◌, ℤ, Bool, true, false, cond, not, List, [], ◌∷◌, length, neg_ℤ, refl, sym, ap, subst, arith, All}
-use Rattle.std.specs.Prelude.{⊤, Option, Some, None, option_map, option_and_then, find, nat_lt, slice_index_or, is_some}
+use Rattle.std.specs.Prelude.{⊤, Option, Some, None, option_map, option_and_then, find, nat_lt, slice_index_or, is_some, FitsSigned, pos, negsuc}
 use Rattle.std.specs.List.{position_or_len}
 use Rattle.std.specs.Str.{bytes_eq}
+use Rattle.std.specs.Int.{w32, w64}
 use Rattle.std.proofs.lemmas.List.Sums.{AllPass-from_list_all}
 use Rattle.std.proofs.Math.ListN.{get_or-eq_default}
 use Rattle.std.proofs.lemmas.Bool.Decides.{nat_tests}
@@ -36,6 +37,17 @@ IsKept kind (Big n) = IsOfKind kind (Big n)
 IsKept kinds.Int (Text bytes) = ⊥
 IsKept kinds.Big (Text bytes) = ⊥
 IsKept (kinds.Text max) (Text bytes) = IsPrintable bytes
+
+-- a number that its type holds
+abbrev pub IsHeld : Value → Type 0
+IsHeld Null = ⊤
+IsHeld (Int n) = FitsSigned w32 n
+IsHeld (Big n) = FitsSigned w64 n
+IsHeld (Text bytes) = ⊤
+
+-- both: what may stand in a column of this type, and R holds of it
+abbrev pub Keeps : (Value → Type 0) → ColType → Value → Type 0
+Keeps R kind v = IsKept kind v × R v
 
 -- INT or BIGINT
 abbrev IsNumeric : ExprType → Type 0
@@ -75,6 +87,11 @@ of_some P x y e h = let same : x ≡ y = cc in subst P same h
 of_test : {X : Type 0} (P : X → Type 0) (b : Bool) (x y : X) → cond b (Some x) None ≡ Some y → P x → P y
 of_test P true x y e h = of_some P x y e h
 of_test P false x y e h = absurd (cc)
+
+-- the same, where the test says more
+of_passed : {X : Type 0} (P : X → Type 0) (b : Bool) (x y : X) → cond b (Some x) None ≡ Some y → (b ≡ true → P x) → P y
+of_passed P true x y e h = of_some P x y e (h refl)
+of_passed P false x y e h = absurd (cc)
 
 -- ---- numbers
 
@@ -241,19 +258,27 @@ text_kind kinds.Big types.Any t e h = absurd h
 text_kind kinds.Big types.Truth t e h = absurd h
 
 -- NULL is kept as NULL
-pub null_kept : (kind : ColType) (w : Value) → kept_as kind Null ≡ Some w → IsKept kind w
-null_kept kinds.Int w e = of_some (IsKept kinds.Int) Null w e tt
-null_kept kinds.Big w e = of_some (IsKept kinds.Big) Null w e tt
-null_kept (kinds.Text max) w e = of_some (IsKept (kinds.Text max)) Null w e tt
+pub null_kept : (kind : ColType) (w : Value) → kept_as kind Null ≡ Some w → Keeps IsHeld kind w
+null_kept kinds.Int w e = of_some (Keeps IsHeld kinds.Int) Null w e (tt, tt)
+null_kept kinds.Big w e = of_some (Keeps IsHeld kinds.Big) Null w e (tt, tt)
+null_kept (kinds.Text max) w e = of_some (Keeps IsHeld (kinds.Text max)) Null w e (tt, tt)
 
-int_kept : (n : ℤ) (w : Value) → stored false n ≡ Some w → IsKept kinds.Int w
-int_kept n w e = of_test (IsKept kinds.Int) (fits_int n) (Int n) w e tt
+int_held : (n : ℤ) → fits_int n ≡ true → FitsSigned w32 n
+int_held (pos n) h = record { sfits = grind (arith, nat_tests) }
+int_held (negsuc n) h = record { sfits = grind (arith, nat_tests) }
 
-big_kept : (n : ℤ) (w : Value) → stored true n ≡ Some w → IsKept kinds.Big w
-big_kept n w e = of_test (IsKept kinds.Big) (fits_big n) (Big n) w e tt
+big_held : (n : ℤ) → fits_big n ≡ true → FitsSigned w64 n
+big_held (pos n) h = record { sfits = grind (arith, nat_tests) }
+big_held (negsuc n) h = record { sfits = grind (arith, nat_tests) }
+
+int_kept : (n : ℤ) (w : Value) → stored false n ≡ Some w → Keeps IsHeld kinds.Int w
+int_kept n w e = of_passed (Keeps IsHeld kinds.Int) (fits_int n) (Int n) w e (λ fits. (tt, int_held n fits))
+
+big_kept : (n : ℤ) (w : Value) → stored true n ≡ Some w → Keeps IsHeld kinds.Big w
+big_kept n w e = of_passed (Keeps IsHeld kinds.Big) (fits_big n) (Big n) w e (λ fits. (tt, big_held n fits))
 
 -- a value of a type that may be compared with the column is kept as one of the column's type
-value_kept : (kind : ColType) (type t : ExprType) (v w : Value) → comparison_type (from_column kind) type ≡ Some t → HasType type v → kept_as kind v ≡ Some w → IsKept kind w
+value_kept : (kind : ColType) (type t : ExprType) (v w : Value) → comparison_type (from_column kind) type ≡ Some t → HasType type v → kept_as kind v ≡ Some w → Keeps IsHeld kind w
 value_kept kind type t Null w may h e = null_kept kind w e
 value_kept kinds.Int type t (Int n) w may h e = int_kept n w e
 value_kept kinds.Int type t (Big n) w may h e = int_kept n w e
@@ -263,20 +288,20 @@ value_kept kinds.Big type t (Big n) w may h e = big_kept n w e
 value_kept kinds.Big type t (Text bytes) w may h e = absurd (text_kind kinds.Big type t may h.0)
 value_kept (kinds.Text max) type t (Int n) w may h e = absurd (number_kind (kinds.Text max) type t may h)
 value_kept (kinds.Text max) type t (Big n) w may h e = absurd (number_kind (kinds.Text max) type t may h)
-value_kept (kinds.Text max) type t (Text bytes) w may h e = of_some (IsKept (kinds.Text max)) (Text bytes) w e h.1
+value_kept (kinds.Text max) type t (Text bytes) w may h e = of_some (Keeps IsHeld (kinds.Text max)) (Text bytes) w e (h.1, tt)
 
 -- so it is of an expression that may stand in a column of this type
-pub expr_kept : (cols : List Column) (row : List Value) (kind : ColType) (e : Tree) (w : Value) → FitsColumns cols row → each_leaf has_printable_text e ≡ true → is_some (both comparison_type (Some (from_column kind)) (tree_type cols e)) ≡ true → option_and_then (kept_as kind) (value_of cols row e) ≡ Some w → IsKept kind w
+pub expr_kept : (cols : List Column) (row : List Value) (kind : ColType) (e : Tree) (w : Value) → FitsColumns cols row → each_leaf has_printable_text e ≡ true → is_some (both comparison_type (Some (from_column kind)) (tree_type cols e)) ≡ true → option_and_then (kept_as kind) (value_of cols row e) ≡ Some w → Keeps IsHeld kind w
 expr_kept cols row kind e w fits prints may given = by_type (tree_type cols e) refl may
   where
-    by_value : (type t : ExprType) → tree_type cols e ≡ Some type → comparison_type (from_column kind) type ≡ Some t → (v : Option Value) → value_of cols row e ≡ v → option_and_then (kept_as kind) v ≡ Some w → IsKept kind w
+    by_value : (type t : ExprType) → tree_type cols e ≡ Some type → comparison_type (from_column kind) type ≡ Some t → (v : Option Value) → value_of cols row e ≡ v → option_and_then (kept_as kind) v ≡ Some w → Keeps IsHeld kind w
     by_value type t has may None is given = absurd (cc)
     by_value type t has may (Some v) is given = value_kept kind type t v w may (typed cols row e type v fits prints has is) given
 
-    by_comparison : (type : ExprType) → tree_type cols e ≡ Some type → (t : Option ExprType) → comparison_type (from_column kind) type ≡ t → is_some t ≡ true → IsKept kind w
+    by_comparison : (type : ExprType) → tree_type cols e ≡ Some type → (t : Option ExprType) → comparison_type (from_column kind) type ≡ t → is_some t ≡ true → Keeps IsHeld kind w
     by_comparison type has None is may = absurd (cc)
     by_comparison type has (Some t) is may = by_value type t has is (value_of cols row e) refl given
 
-    by_type : (type : Option ExprType) → tree_type cols e ≡ type → is_some (both comparison_type (Some (from_column kind)) type) ≡ true → IsKept kind w
+    by_type : (type : Option ExprType) → tree_type cols e ≡ type → is_some (both comparison_type (Some (from_column kind)) type) ≡ true → Keeps IsHeld kind w
     by_type None has may = absurd (cc)
     by_type (Some type) has may = by_comparison type has _ refl may

@@ -8,7 +8,7 @@ ghost use Rattle.plain_model.specs.Sound.{is_definition};
 ghost use Rattle.plain_model.specs.Tables.{key_of};
 ghost use Rattle.row_fmt.specs.Keys.{key_bytes};
 ghost use Rattle.row_fmt.specs.Rows.{row_bytes};
-ghost use Rattle.row_types.specs.Fitting.{PutsWhatFits};
+ghost use Rattle.row_types.specs.Fitting.{PutsWhatFits, PutsWhatIsHeld};
 ghost use Rattle.row_types.specs.Limits.{PutsWhatIsSmall};
 
 /// What a statement puts into a table fits the table's columns, where the statement is sound and suits them.
@@ -25,4 +25,10 @@ pub fn sizes_are_lengths()
 /// What a statement puts into a table is within the limits of rows and keys, where the table's rows are.
 pub fn rows_that_are_put_are_small()
     ensures { PutsWhatIsSmall }
+{}
+
+/// The numbers and texts in what a statement puts into a table are in the range of their types, where those of the
+/// table's rows are.
+pub fn rows_that_are_put_are_in_range()
+    ensures { PutsWhatIsHeld }
 {}

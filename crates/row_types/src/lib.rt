@@ -3,4 +3,7 @@
 
 mod law;
 
-pub use law::{rows_that_are_put_are_small, rows_that_are_put_fit, sizes_are_lengths};
+pub use law::{
+    rows_that_are_put_are_in_range, rows_that_are_put_are_small, rows_that_are_put_fit,
+    sizes_are_lengths,
+};
