@@ -135,14 +135,14 @@ puts_what_is_small stmt t sound fits small shape =
 
 -- ---- the range
 
--- a row within the limits has no text of more than two bytes can number
-in_range : (R : Value → Type 0) (cols : List Column) (row : List Value) → ((v : Value) → R v → IsHeld v) → AreKept R cols row → size_of_values row ≤ 8060 → AllByRecursion InRange row
-in_range R [] [] each h small = tt
-in_range R [] (v ∷ row) each h small = absurd h
-in_range R (c ∷ cols) [] each h small = absurd h
-in_range R (c ∷ cols) (v ∷ row) each h small =
+-- in a row within the limits two bytes can tell the length of each text
+in_range : (cols : List Column) (row : List Value) → AreKept IsHeld cols row → size_of_values row ≤ 8060 → AllByRecursion InRange row
+in_range [] [] h small = tt
+in_range [] (v ∷ row) h small = absurd h
+in_range (c ∷ cols) [] h small = absurd h
+in_range (c ∷ cols) (v ∷ row) h small =
     let first : size_of_value v ≤ 8060 = omega arith in
-    (of_value v (each v h.0.1) first, in_range R cols row each h.1 (omega arith))
+    (of_value v h.0.1 first, in_range cols row h.1 (omega arith))
   where
     of_value : (v : Value) → IsHeld v → size_of_value v ≤ 8060 → InRange v
     of_value Null h small = tt
@@ -167,7 +167,7 @@ rows_held cols (row ∷ rows) h = (row_held row h.0.range, rows_held cols rows h
 row_of : (cols : List Column) (row : List Value) → AreKept IsHeld cols row → row_fault cols row ≡ None → IsRowOf cols row
 row_of cols row h right = record {
   fits = row_fits IsHeld cols row h right;
-  range = in_range IsHeld cols row (λ v held. held) h (omega (arith, row_small cols row right, row_sized row));
+  range = in_range cols row h (omega (arith, row_small cols row right, row_sized row));
 }
 
 -- what a sound statement that suits its table puts is a row that a program can hold
