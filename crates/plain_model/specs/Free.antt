@@ -8,7 +8,7 @@ use Rattle.plain_model.specs.declared.stmt.SnapFile.{SnapFile}
 use Rattle.plain_model.specs.declared.reply.Reply.{Reply}
 use Rattle.plain_model.specs.declared.reply.Reply.TheVariants.{Ok, Count, Msg}
 use Rattle.plain_model.specs.State.{Plain, session, is_suspect}
-use Rattle.plain_model.specs.Meaning.{plain}
+use Rattle.plain_model.specs.Messages.{plain}
 use Rattle.plain_model.specs.Next.{Replies, Cuts, unless, no_snap, sparse_names, next_of}
 
 -- whether the statement is about tables

@@ -3,7 +3,7 @@ use Rattle.std.specs.Prelude.{ℕ, ◌+◌, ◌-◌, ◌≤◌, ◌≡◌, ◌�
 use Rattle.std.specs.Str.{bytes_eq}
 use Rattle.std.specs.List.{list_any}
 use Rattle.plain_model.specs.declared.stmt.Stmt.{Stmt}
-use Rattle.plain_model.specs.declared.stmt.Stmt.TheVariants.{UseDb, CreateTable, Insert, Update, CreateSnap}
+use Rattle.plain_model.specs.declared.stmt.Stmt.TheVariants.{UseDb, CreateTable, Insert, Update, Delete, CreateSnap}
 use Rattle.plain_model.specs.declared.reply.Message.{Message}
 use Rattle.plain_model.specs.declared.event.Event.{Event}
 use Rattle.plain_model.specs.declared.event.Event.TheVariants.{Locked, CutAt, RestoreAt, Turned, Said, Left}
@@ -88,6 +88,7 @@ effect st k (Some (UseDb d)) reply = let s = session st k in with_session st k (
 effect st k (Some (CreateTable name cols)) reply = with_changes st k (change_and_reply (CreateTable name cols) (see st k)).0
 effect st k (Some (Insert i)) reply = with_changes st k (change_and_reply (Insert i) (see st k)).0
 effect st k (Some (Update u)) reply = with_changes st k (change_and_reply (Update u) (see st k)).0
+effect st k (Some (Delete d)) reply = with_changes st k (change_and_reply (Delete d) (see st k)).0
 effect st k stmt reply = st
 
 -- the restoring of session k is over

@@ -1,18 +1,12 @@
 -- What comes next of a session: its reply, a lock, a cut or a revert, decided from left to right by the order of refusals.
-use Rattle.std.specs.Prelude.{ℕ, ◌-◌, ◌^◌, pos, negsuc, nat_le, Bool, true, false, ◌==◌, ◌&&◌, ◌||◌, not, if◌then◌else◌, List, [], ◌∷◌, length, map, Option, Some, None, is_none}
+use Rattle.std.specs.Prelude.{ℕ, ◌-◌, ◌^◌, nat_le, Bool, true, false, ◌==◌, ◌&&◌, ◌||◌, not, if◌then◌else◌, List, [], ◌∷◌, length, map, Option, Some, None}
 use Rattle.std.specs.Str.{bytes_eq}
 use Rattle.std.specs.List.{list_all, list_any}
-use Rattle.std.specs.Ordering.{int_cmp, is_gt}
 use Rattle.page_base.specs.declared.numbers.Mode.{Mode}
 use Rattle.page_base.specs.declared.numbers.Mode.TheVariants.{S, X}
 use Rattle.page_base.specs.declared.column.Column.{Column}
-use Rattle.page_base.specs.declared.column.ColType.{ColType}
-use Rattle.page_base.specs.declared.column.ColType.TheVariants as types
-use Rattle.plain_model.specs.declared.expr.Expr.{Expr}
-use Rattle.plain_model.specs.declared.expr.Expr as code
 use Rattle.plain_model.specs.declared.stmt.Stmt.{Stmt}
-use Rattle.plain_model.specs.declared.stmt.Stmt.TheVariants.{UseDb, CreateTable, Insert, Select, Update, CreateSnap, Broken}
-use Rattle.plain_model.specs.declared.stmt.SetItem.{SetItem}
+use Rattle.plain_model.specs.declared.stmt.Stmt.TheVariants.{UseDb, CreateTable, Insert, Select, Update, Delete, CreateSnap, Broken}
 use Rattle.plain_model.specs.declared.stmt.SnapFile.{SnapFile}
 use Rattle.plain_model.specs.declared.event.LockName.{LockName}
 use Rattle.plain_model.specs.declared.event.LockName.TheVariants.{All, Table}
@@ -22,7 +16,8 @@ use Rattle.plain_model.specs.declared.reply.Reply.TheVariants.{Ok, Msg}
 use Rattle.plain_model.specs.Tables.{Tables}
 use Rattle.plain_model.specs.State.{Plain, session, stmt_of, see, copy, master, is_source, is_snap, is_suspect, is_being_made, is_restoring}
 use Rattle.plain_model.specs.Holding.{holds, held}
-use Rattle.plain_model.specs.Meaning.{plain, at_place, shape, change_and_reply}
+use Rattle.plain_model.specs.Messages.{plain, at_place}
+use Rattle.plain_model.specs.Meaning.{shape, change_and_reply}
 use Rattle.plain_model.specs.Sound.{are_distinct}
 
 -- what comes next of a session: a reply, an event before it, or nothing where it has no statement left
@@ -74,7 +69,7 @@ next_create st k stmt cols =
     unless (no_write st k) (unless ((nat_le 1 (session st k).depth, plain 60011) ∷ (length cols == 0, plain 60016) ∷ [])
     (under st k All X (unless_shape (shape stmt (see st k)) (answers stmt (see st k)))))
 
--- INSERT into a table, or UPDATE of one
+-- INSERT into a table, or UPDATE or DELETE of one
 abbrev pub next_change : Plain → ℕ → Stmt → List ℕ → Next
 next_change st k stmt table =
     unless (no_write st k)
@@ -124,35 +119,14 @@ abbrev pub next_snap : Plain → ℕ → Option (List ℕ) → List ℕ → List
 next_snap st k (Some made) snap files of = unless ((is_suspect st made, plain 60021) ∷ []) (Replies Ok)
 next_snap st k None snap files of = unless (no_snap st k snap files of) (unless (no_room st files) (Cuts snap))
 
-abbrev pub is_int : Column → Bool
-is_int c = is_int_type c.kind
-  where
-    is_int_type : ColType → Bool
-    is_int_type types.Int = true
-    is_int_type _ = false
-
--- a number literal that an INT column takes
-abbrev pub is_small_number : Expr → Bool
-is_small_number (code.Number n) = not (is_gt (int_cmp n (pos 2147483647))) && not (is_gt (int_cmp (negsuc 2147483647) n))
-is_small_number _ = false
-
-abbrev pub is_one_row : List (List Expr) → Bool
-is_one_row (row ∷ []) = list_all is_small_number row
-is_one_row _ = false
-
--- one column is set to a number
-abbrev pub is_one_set : List SetItem → Bool
-is_one_set (i ∷ []) = is_small_number i.to
-is_one_set _ = false
-
--- whether the statement is one of those that are built so far: tables have INT columns, an INSERT has one row of
--- numbers, and an UPDATE sets one column of all rows to a number
+-- whether the statement is one of those that are built so far; transactions, settings, dropping and reverting aren't
 abbrev pub is_built : Stmt → Bool
 is_built (UseDb d) = true
-is_built (CreateTable name cols) = list_all is_int cols
-is_built (Insert i) = length i.cols == 0 && is_one_row i.rows
+is_built (CreateTable name cols) = true
+is_built (Insert i) = true
 is_built (Select s) = true
-is_built (Update u) = is_none u.filter && is_one_set u.sets
+is_built (Update u) = true
+is_built (Delete d) = true
 is_built (CreateSnap snap files of) = true
 is_built (Broken at) = true
 is_built stmt = false
@@ -164,6 +138,7 @@ next_built st k (CreateTable name cols) = next_create st k (CreateTable name col
 next_built st k (Insert i) = next_change st k (Insert i) i.table
 next_built st k (Select s) = next_select st k (Select s) s.table
 next_built st k (Update u) = next_change st k (Update u) u.table
+next_built st k (Delete d) = next_change st k (Delete d) d.table
 next_built st k (CreateSnap snap files of) = next_snap st k (session st k).making snap files of
 next_built st k (Broken at) = Replies (Msg (at_place 102 at))
 next_built st k stmt = Silent

@@ -1,5 +1,5 @@
 -- What a SELECT answers over a table.
-use Rattle.std.specs.Prelude.{List, [], map, Option, Some, None, option_map}
+use Rattle.std.specs.Prelude.{List, [], map, Option, Some, option_map}
 use Rattle.std.specs.declared.result.Result.{Result}
 use Rattle.std.specs.declared.result.Result.TheVariants as result
 use Rattle.page_base.specs.declared.column.Column.{Column}

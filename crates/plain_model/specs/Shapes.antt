@@ -1,5 +1,5 @@
 -- Which statements don't suit the columns of their table, whatever its rows are.
-use Rattle.std.specs.Prelude.{ℕ, Bool, true, false, not, ◌&&◌, ◌||◌, nat_le, List, [], ◌∷◌, map, Option, Some, None, is_some, is_none, option_map}
+use Rattle.std.specs.Prelude.{ℕ, Bool, true, false, not, ◌&&◌, ◌||◌, nat_le, List, [], ◌∷◌, map, Option, Some, None, is_some, is_none}
 use Rattle.std.specs.Str.{bytes_eq}
 use Rattle.std.specs.List.{list_all, list_any}
 use Rattle.page_base.specs.declared.column.Column.{Column}
@@ -10,7 +10,6 @@ use Rattle.plain_model.specs.declared.stmt.InsertStmt.{InsertStmt}
 use Rattle.plain_model.specs.declared.stmt.Items.{Items}
 use Rattle.plain_model.specs.declared.stmt.Items.TheVariants.{Star, Exprs, Sums}
 use Rattle.plain_model.specs.declared.stmt.SelectStmt.{SelectStmt}
-use Rattle.plain_model.specs.declared.stmt.SetItem.{SetItem}
 use Rattle.plain_model.specs.declared.stmt.Sum.{Sum}
 use Rattle.plain_model.specs.declared.stmt.Sum.TheVariants.{CountAll, SumOf}
 use Rattle.plain_model.specs.declared.stmt.UpdateStmt.{UpdateStmt}
