@@ -28,7 +28,7 @@ use Rattle.table_pages.specs.Carried.{Holds}
 use Rattle.table_pages.proofs.HeaderLemmas.{IsHeader, header_is}
 use Rattle.table_pages.proofs.PageLemmas.{table_is, few_slots, slot_past, Passes, Puts, front_more, front_all}
 
-held_header : (image held : List ℕ) (t : Table) → Holds image held t → IsHeader (slot_at (content image) 0) held t.cols
+pub held_header : (image held : List ℕ) (t : Table) → Holds image held t → IsHeader (slot_at (content image) 0) held t.cols
 held_header image held t h = header_is (slot_at (content image) 0) held t.cols (table_is (slot_at (content image)) held t h).header
 
 -- the name that was read is the table's, and its columns follow

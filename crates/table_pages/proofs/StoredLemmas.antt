@@ -14,7 +14,6 @@ use Rattle.page_base.specs.Order.{key_cmp}
 use Rattle.page_base.proofs.Ordered.{key_cmp_total}
 use Rattle.page_base.proofs.MapLemmas.{entries-from_entries, from_entries-insert_entry}
 use Rattle.plain_model.specs.Tables.{Table, IsTable, IsKeyed, with_row, key_of, rows_of}
-use Rattle.plain_model.specs.Meaning.{shown, shown_rows}
 
 -- rows beside their keys
 abbrev pub Entries : Type 0
@@ -42,10 +41,6 @@ stored-rows cols es t is sorted = ap (map (λ e. e.1)) (sym (entries-from_entrie
 pub stored-len : (cols : List Column) (es : Entries) (t : Table) (n : ℕ) → stored cols es ≡ t → IsStrictlySortedBy key_cmp (map (λ e. e.0) es) → n ≡ length es → n ≡ length (rows_of t)
 stored-len cols es t n is sorted e = e ∙ sym (length-map es (λ e. e.1)) ∙ ap length (stored-rows cols es t is sorted)
 
--- one more row is shown
-pub shown_more : (all list list' : List (List Value)) (rest : List (List Value)) (row r : List Value) → all ≡ list ++ shown_rows (row ∷ rest) → r ≡ map shown row → list' ≡ list ++ r ∷ [] → all ≡ list' ++ shown_rows rest
-shown_more all list list' rest row r h is more = h ∙ sym (append_assoc list (map shown row ∷ []) (shown_rows rest)) ∙ ap (λ (l : List (List Value)). l ++ shown_rows rest) (ap (λ (x : List Value). list ++ x ∷ []) (sym is) ∙ sym more)
-
 -- a table without rows has each by its own key
 pub stored-none : (cols : List Column) (es : Entries) → es ≡ [] → IsKeyed (stored cols es)
 stored-none cols es is = subst (λ (es : Entries). IsKeyed (stored cols es)) (sym is) (record { at = λ key row f. let no : None ≡ Some row = sym (get-empty key_cmp key) ∙ f in cc })
@@ -64,7 +59,3 @@ stored-table cols es t rows is keyed sorted gives =
       keys = subst (λ (cs : List Column). finite.keys t.rows ≡ map (key_of cs) rows) (sym (ap (λ (t : Table). t.cols) is))
           (subst (λ (rs : List (List Value)). finite.keys t.rows ≡ map (key_of t.cols) rs) (sym (gives ∙ stored-rows cols es t is sorted)) whole.keys);
     }
-
--- one more row is copied
-pub copied_more : (all list list' rest : List (List Value)) (row r : List Value) → all ≡ list ++ row ∷ rest → r ≡ row → list' ≡ list ++ r ∷ [] → all ≡ list' ++ rest
-copied_more all list list' rest row r h is more = h ∙ sym (append_assoc list (row ∷ []) rest) ∙ ap (λ (l : List (List Value)). l ++ rest) (ap (λ (x : List Value). list ++ x ∷ []) (sym is) ∙ sym more)

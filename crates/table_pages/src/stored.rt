@@ -3,9 +3,8 @@
 ghost use Rattle.std.specs.Prelude.{◌≡◌, ◌↔◌, [], length, map, IsTrue, IfOk, OnOk, OnErr};
 ghost use Rattle.std.specs.FinMap as finite;
 ghost use Rattle.plain_model.specs.Tables.{IsTable, with_row, key_of, rows_of};
-ghost use Rattle.plain_model.specs.Meaning.{shown, shown_rows};
 
-use page_base::{Columns, NoMemory, Row, RowList, Value};
+use page_base::{Columns, NoMemory, Row, RowList};
 use std::alloc::Global;
 use std::collections::BTreeMap;
 use std::marker::Model;
@@ -93,56 +92,4 @@ impl StoredTable {
         }
         Ok((cols, list))
     }
-
-    /// Its rows, in ascending order of keys.
-    pub fn rows(&self, alloc: Global) -> Result<RowList, NoMemory>
-        ensures { IfOk result (λ rows. rows ≡ rows_of self.now) }
-    {
-        let mut list = RowList::new(alloc);
-        for row in self.rows.values() {
-            list.push(copy_row(alloc, row)?)?;
-        }
-        Ok(list)
-    }
-
-    /// Its rows as a reply shows them, in ascending order of keys.
-    pub fn shown_rows(&self, alloc: Global) -> Result<RowList, NoMemory>
-        ensures { IfOk result (λ rows. rows ≡ shown_rows (rows_of self.now)) }
-    {
-        let mut list = RowList::new(alloc);
-        for row in self.rows.values() {
-            list.push(shown_row(alloc, row)?)?;
-        }
-        Ok(list)
-    }
-}
-
-fn copy_row(alloc: Global, row: &Row) -> Result<Row, NoMemory>
-    ensures { IfOk result (λ r. r ≡ row.now) }
-{
-    let mut values = Row::new(alloc);
-    for value in row.as_slice() {
-        values.push(value.copy(alloc)?)?;
-    }
-    Ok(values)
-}
-
-// The value as a reply shows it: every number is a `Big`.
-fn shown_value(alloc: Global, value: &Value) -> Result<Value, NoMemory>
-    ensures { IfOk result (λ v. v ≡ shown value.now) }
-{
-    match value {
-        Value::Int(number) => Ok(Value::Big(i64::from(*number))),
-        other => other.copy(alloc),
-    }
-}
-
-fn shown_row(alloc: Global, row: &Row) -> Result<Row, NoMemory>
-    ensures { IfOk result (λ r. r ≡ map shown row.now) }
-{
-    let mut values = Row::new(alloc);
-    for value in row.as_slice() {
-        values.push(shown_value(alloc, value)?)?;
-    }
-    Ok(values)
 }

@@ -9,7 +9,7 @@ ghost use Rattle.table_pages.specs.Trial.{IsReady, IsFirstFront};
 
 use crate::header::header;
 use crate::{
-    Edit, columns, find, has_key, is_blank, is_named, place, plan_change, plan_create, read_table,
+    Edit, EditList, columns, find, has_key, is_blank, is_named, place, plan_change, plan_create, read_table,
 };
 use mem_dev::MemPages;
 use page_base::{
@@ -65,15 +65,6 @@ fn headers_are_spelled(rt: HostRuntime) -> Result<(), Fail> {
     Ok(())
 }
 
-// The numbers as a reply shows them.
-fn bigs(alloc: Global, numbers: &[i64]) -> Result<Row, NoMemory> {
-    let mut row = Row::new(alloc);
-    for number in numbers {
-        row.push(Value::Big(*number))?;
-    }
-    Ok(row)
-}
-
 // A key `id` and a column `v`.
 fn two_columns(alloc: Global) -> Result<Columns, Fail>
     ensures { IfOk result (λ cols. is_definition cols ≡ true) }
@@ -120,10 +111,10 @@ fn tables_are_read(rt: HostRuntime) -> Result<(), Fail> {
     assert!(rt; table.cols().len() == 2 && !table.is_empty());
     assert!(rt; table.has_key(&ints(rt.alloc(), &[2])?));
     assert!(rt; !table.has_key(&ints(rt.alloc(), &[20])?));
-    let rows = table.shown_rows(rt.alloc())?;
+    let (_cols, rows) = table.into_parts(rt.alloc())?;
     assert_eq!(rt; rows.len(), 2);
-    assert_eq!(rt; rows.at(0), &bigs(rt.alloc(), &[1, -10])?);
-    assert_eq!(rt; rows.at(1), &bigs(rt.alloc(), &[2, 20])?);
+    assert_eq!(rt; rows.at(0), &ints(rt.alloc(), &[1, -10])?);
+    assert_eq!(rt; rows.at(1), &ints(rt.alloc(), &[2, 20])?);
     Ok(())
 }
 
@@ -233,6 +224,14 @@ fn change(
     }
 }
 
+// Whether these are the edits, by slot and bytes, all of page 1.
+fn are_edits(edits: &EditList, wanted: &[(u16, &[u8])]) -> bool {
+    edits.len() == wanted.len()
+        && edits.as_slice().iter().zip(wanted).all(|(edit, (slot, bytes))| {
+            edit.page == place(0) && edit.slot == *slot && edit.bytes.as_slice() == *bytes
+        })
+}
+
 // So many rows, with the keys from 0 on.
 fn rows_up_to(alloc: Global, count: i32, value: i32) -> Result<RowList, NoMemory> {
     let mut rows = RowList::new(alloc);
@@ -273,21 +272,16 @@ fn only_rows_that_change_are_edited(rt: HostRuntime) -> Result<(), Fail> {
     let none = RowList::new(rt.alloc());
     let rows = rows_up_to(rt.alloc(), 8, 7)?;
     let edits = plan_change(rt.alloc(), &pages, 0, &cols, &rows, &none)?.ok_or("no room")?;
-    assert_eq!(rt; edits.len(), 4);
-    for (edit, k) in edits.as_slice().iter().zip([0u8, 2, 4, 6]) {
-        assert_eq!(rt; edit.page, PageId { file: 0, page: 1 });
-        assert_eq!(rt; edit.slot, u16::from(k) + 1);
-        assert_eq!(rt;
-            edit.bytes.as_slice(),
-            [0, k, 0, 0, 0, 7, 0, 0, 0].as_slice()
-        );
-    }
+    let wanted = [
+        (1, b"\0\x00\0\0\0\x07\0\0\0".as_slice()),
+        (3, b"\0\x02\0\0\0\x07\0\0\0"),
+        (5, b"\0\x04\0\0\0\x07\0\0\0"),
+        (7, b"\0\x06\0\0\0\x07\0\0\0"),
+    ];
+    assert!(rt; are_edits(&edits, &wanted));
     assert!(rt; carry_all(&mut pages, edits.as_slice()));
-    let rows = read_table(rt.alloc(), pages.image(place(0)))?.rows(rt.alloc())?;
-    assert_eq!(rt; rows.len(), 8);
-    for (row, k) in rows.as_slice().iter().zip(0i32..8) {
-        assert_eq!(rt; row, &ints(rt.alloc(), &[k, 7])?);
-    }
+    let (_cols, rows) = read_table(rt.alloc(), pages.image(place(0)))?.into_parts(rt.alloc())?;
+    assert_eq!(rt; rows, rows_up_to(rt.alloc(), 8, 7)?);
     Ok(())
 }
 
@@ -324,14 +318,11 @@ fn edits_that_grow_a_slot_come_last(rt: HostRuntime) -> Result<(), Fail> {
     let mut cut = RowList::new(alloc);
     cut.push(ints(alloc, &[1])?)?;
     let edits = plan_change(alloc, &pages, 0, &cols, &rows, &cut)?.ok_or("no room")?;
-    assert_eq!(rt; edits.len(), 2);
-    for (edit, (slot, bytes)) in edits.as_slice().iter().zip([
-        (1u16, b"\0\x04\0\0\0\x01\0d".as_slice()),
+    let wanted = [
+        (1, b"\0\x04\0\0\0\x01\0d".as_slice()),
         (2, b"\0\x02\0\0\0\x04\0bbbb"),
-    ]) {
-        assert_eq!(rt; edit.slot, slot);
-        assert_eq!(rt; edit.bytes.as_slice(), bytes);
-    }
+    ];
+    assert!(rt; are_edits(&edits, &wanted));
     Ok(())
 }
 
