@@ -5,15 +5,14 @@ use Rattle.std.specs.Str.{bytes_eq}
 use Rattle.std.proofs.lemmas.Slice.Eq.{bytes_eq-Decides}
 use Rattle.page_base.specs.declared.column.Column.{Column}
 use Rattle.plain_model.specs.declared.stmt.Stmt.{Stmt}
-use Rattle.plain_model.specs.declared.stmt.Stmt.TheVariants.{UseDb, CreateTable, Insert, Select, Update, Broken}
-use Rattle.plain_model.specs.declared.stmt.InsertStmt.{InsertStmt}
+use Rattle.plain_model.specs.declared.stmt.Stmt.TheVariants.{UseDb, CreateTable, Select, Broken}
 use Rattle.plain_model.specs.declared.stmt.SelectStmt.{SelectStmt}
-use Rattle.plain_model.specs.declared.stmt.UpdateStmt.{UpdateStmt}
 use Rattle.plain_model.specs.declared.reply.Reply.{Reply}
 use Rattle.plain_model.specs.declared.reply.Reply.TheVariants.{Ok, Msg}
 use Rattle.plain_model.specs.Journal.{Opening}
 use Rattle.plain_model.specs.State.{Plain, session, is_suspect, is_source, is_snap, copy, master}
-use Rattle.plain_model.specs.Meaning.{plain, at_place, shape}
+use Rattle.plain_model.specs.Messages.{plain, at_place}
+use Rattle.plain_model.specs.Meaning.{shape}
 use Rattle.plain_model.specs.Next.{Next, Replies, unless, unless_shape, answers, no_write, is_database, next_of, is_built}
 use Rattle.plain_model.specs.Free.{NoMemory, is_of_tables, reads_suspect}
 use Rattle.snap_pages.specs.Catalog.{Catalog, IsCatalog, LacksName}
@@ -23,7 +22,8 @@ use Rattle.engine_core.specs.declared.database.Database.TheVariants.{Source, Mas
 use Rattle.engine_core.specs.Databases.{Means, is_lost, is_there, is_home, is_shot}
 use Rattle.engine_core.specs.Deciding.{AreApart}
 use Rattle.engine_core.specs.Ready.{Seen, Ready, Comes}
-use Rattle.engine_core.proofs.Coming.{not_built, built}
+use Rattle.engine_core.proofs.Coming.{not_built, built, change_next}
+use Rattle.engine_core.specs.Changing.{is_change}
 use Rattle.engine_core.proofs.Placed.{snaps, lacks_snap, lacks_lost, has_snap, has_state}
 
 or_true : (b : Bool) → (b || true) ≡ true
@@ -97,14 +97,11 @@ module _ (opening : Opening) (current : List ℕ) (seen : Seen) (cat : Catalog) 
       let h = current_home st k ready is ∙ out in
       rw (l, h) (elim (is_lost cat db) as (λ b. cond b (Replies (Msg (plain 926))) (Replies (Msg (plain 3906))) ≡ Replies (Msg (cond b (plain 926) (plain 3906)))) [ true ↦ refl | false ↦ refl ])
 
-  pub create_refused : (name : List ℕ) (cols : List Column) → is_built (CreateTable name cols) ≡ true → is_home db ≡ false → Comes opening current seen (snaps cat master) (CreateTable name cols) (AtOnce (Msg (cond (is_lost cat db) (plain 926) (plain 3906))))
-  create_refused name cols b out st k ready is = inl (built st k (CreateTable name cols) b ∙ write_refused st k _ ready is out)
+  pub create_refused : (name : List ℕ) (cols : List Column) → is_home db ≡ false → Comes opening current seen (snaps cat master) (CreateTable name cols) (AtOnce (Msg (cond (is_lost cat db) (plain 926) (plain 3906))))
+  create_refused name cols out st k ready is = inl (built st k (CreateTable name cols) refl ∙ write_refused st k _ ready is out)
 
-  pub insert_refused : (i : InsertStmt) → is_built (Insert i) ≡ true → is_home db ≡ false → Comes opening current seen (snaps cat master) (Insert i) (AtOnce (Msg (cond (is_lost cat db) (plain 926) (plain 3906))))
-  insert_refused i b out st k ready is = inl (built st k (Insert i) b ∙ write_refused st k _ ready is out)
-
-  pub update_refused : (u : UpdateStmt) → is_built (Update u) ≡ true → is_home db ≡ false → Comes opening current seen (snaps cat master) (Update u) (AtOnce (Msg (cond (is_lost cat db) (plain 926) (plain 3906))))
-  update_refused u b out st k ready is = inl (built st k (Update u) b ∙ write_refused st k _ ready is out)
+  pub change_refused : (stmt : Stmt) → is_change stmt ≡ true → is_home db ≡ false → Comes opening current seen (snaps cat master) stmt (AtOnce (Msg (cond (is_lost cat db) (plain 926) (plain 3906))))
+  change_refused stmt h out st k ready is = inl (change_next st k stmt h ∙ write_refused st k _ ready is out)
 
   -- SELECT outside the source and all snapshots
   pub select_refused : (s : SelectStmt) → is_built (Select s) ≡ true → is_home db ≡ false → is_shot db ≡ false → Comes opening current seen (snaps cat master) (Select s) (AtOnce (Msg (plain 208)))

@@ -4,15 +4,16 @@ use Rattle.std.specs.Prelude.{◌==◌, IfOk, MatchResult}
 use Rattle.page_base.specs.declared.column.Column.{Column}
 use Rattle.page_base.specs.declared.failure.NoMemory.{NoMemory}
 use Rattle.plain_model.specs.declared.stmt.Stmt.{Stmt}
-use Rattle.plain_model.specs.declared.stmt.Stmt.TheVariants.{UseDb, CreateTable, Insert, Select, Update, CreateSnap, Broken}
+use Rattle.plain_model.specs.declared.stmt.Stmt.TheVariants.{UseDb, CreateTable, Insert, Select, Update, Delete, CreateSnap, Broken}
 use Rattle.plain_model.specs.declared.stmt.SnapFile.{SnapFile}
 use Rattle.plain_model.specs.declared.stmt.InsertStmt.{InsertStmt}
 use Rattle.plain_model.specs.declared.stmt.SelectStmt.{SelectStmt}
 use Rattle.plain_model.specs.declared.stmt.UpdateStmt.{UpdateStmt}
+use Rattle.plain_model.specs.declared.stmt.DeleteStmt.{DeleteStmt}
 use Rattle.plain_model.specs.declared.reply.Message.{Message}
 use Rattle.plain_model.specs.declared.reply.Reply.TheVariants.{Ok as Fine, Msg}
 use Rattle.plain_model.specs.Journal.{Opening}
-use Rattle.plain_model.specs.Meaning.{plain, at_place}
+use Rattle.plain_model.specs.Messages.{plain, at_place}
 use Rattle.plain_model.specs.Next.{is_built}
 use Rattle.plain_model.specs.Free.{is_of_tables}
 use Rattle.snap_pages.specs.Shown.{Shown, catalog}
@@ -25,12 +26,14 @@ use Rattle.engine_core.specs.Ready.{Seen}
 use Rattle.engine_core.specs.Stepping.{IsPlain}
 use Rattle.engine_core.specs.Deciding.{Setting, IsDecision, Decides}
 use Rattle.engine_core.proofs.PushLemmas.{bytes_same}
-use Rattle.engine_core.proofs.AtOnce.{eq_is, unbuilt_comes, broken_comes, memory_comes, create_refused, insert_refused, update_refused, select_refused, select_lost, use_absent, use_lost, use_comes}
+use Rattle.engine_core.proofs.AtOnce.{eq_is, unbuilt_comes, broken_comes, memory_comes, create_refused, change_refused, select_refused, select_lost, use_absent, use_lost, use_comes}
 use Rattle.engine_core.proofs.Coming.{bad_comes}
 use Rattle.engine_core.proofs.Decisions.{decides_only, refuses_only, other_number, no_failure}
 use Rattle.engine_core.specs.Causes.{IsRoomReply, IsNoFailure}
 use Rattle.engine_core.specs.Seeing.{IsSelect}
 use Rattle.engine_core.proofs.SelectLemmas.{as_select}
+use Rattle.engine_core.specs.Changing.{is_change}
+use Rattle.engine_core.proofs.ChangeLemmas.{change_plain}
 use Rattle.plain_model.specs.declared.reply.Carried.TheVariants.{Nothing, Number}
 
 abbrev pub now : Message → Decision
@@ -50,17 +53,13 @@ module _ (v : Shown) (db : Database) where
   unbuilt stmt b simple opening current seen setting means =
       refuses_only opening opening.source current v seen stmt (AtOnce (Msg (plain 60098))) 60098 Nothing refl refl refl setting simple (unbuilt_comes opening current seen (catalog v) setting.ordered setting.apart db means stmt b)
 
-  pub create_outside : (name : List ℕ) (cols : List Column) → is_built (CreateTable name cols) ≡ true → is_home db ≡ false → Decides v db (CreateTable name cols) (now (cond (is_lost (catalog v) db) (plain 926) (plain 3906)))
-  create_outside name cols b out opening current seen setting means =
-      decides_only opening opening.source current v seen (CreateTable name cols) (AtOnce (Msg (cond (is_lost (catalog v) db) (plain 926) (plain 3906)))) setting refl tt (outside_room v (CreateTable name cols) (is_lost (catalog v) db)) (outside_fine (is_lost (catalog v) db)) (create_refused opening current seen (catalog v) setting.ordered setting.apart db means name cols b out)
+  pub create_outside : (name : List ℕ) (cols : List Column) → is_home db ≡ false → Decides v db (CreateTable name cols) (now (cond (is_lost (catalog v) db) (plain 926) (plain 3906)))
+  create_outside name cols out opening current seen setting means =
+      decides_only opening opening.source current v seen (CreateTable name cols) (AtOnce (Msg (cond (is_lost (catalog v) db) (plain 926) (plain 3906)))) setting refl tt (outside_room v (CreateTable name cols) (is_lost (catalog v) db)) (outside_fine (is_lost (catalog v) db)) (create_refused opening current seen (catalog v) setting.ordered setting.apart db means name cols out)
 
-  pub insert_outside : (i : InsertStmt) → is_built (Insert i) ≡ true → is_home db ≡ false → Decides v db (Insert i) (now (cond (is_lost (catalog v) db) (plain 926) (plain 3906)))
-  insert_outside i b out opening current seen setting means =
-      decides_only opening opening.source current v seen (Insert i) (AtOnce (Msg (cond (is_lost (catalog v) db) (plain 926) (plain 3906)))) setting refl tt (outside_room v (Insert i) (is_lost (catalog v) db)) (outside_fine (is_lost (catalog v) db)) (insert_refused opening current seen (catalog v) setting.ordered setting.apart db means i b out)
-
-  pub update_outside : (u : UpdateStmt) → is_built (Update u) ≡ true → is_home db ≡ false → Decides v db (Update u) (now (cond (is_lost (catalog v) db) (plain 926) (plain 3906)))
-  update_outside u b out opening current seen setting means =
-      decides_only opening opening.source current v seen (Update u) (AtOnce (Msg (cond (is_lost (catalog v) db) (plain 926) (plain 3906)))) setting refl tt (outside_room v (Update u) (is_lost (catalog v) db)) (outside_fine (is_lost (catalog v) db)) (update_refused opening current seen (catalog v) setting.ordered setting.apart db means u b out)
+  pub change_outside : (stmt : Stmt) → is_change stmt ≡ true → is_home db ≡ false → Decides v db stmt (now (cond (is_lost (catalog v) db) (plain 926) (plain 3906)))
+  change_outside stmt h out opening current seen setting means =
+      decides_only opening opening.source current v seen stmt (AtOnce (Msg (cond (is_lost (catalog v) db) (plain 926) (plain 3906)))) setting refl (change_plain stmt (Msg (cond (is_lost (catalog v) db) (plain 926) (plain 3906))) h) (outside_room v stmt (is_lost (catalog v) db)) (outside_fine (is_lost (catalog v) db)) (change_refused opening current seen (catalog v) setting.ordered setting.apart db means stmt h out)
 
   -- in the source
   module _ (home : is_home db ≡ true) where
@@ -76,9 +75,9 @@ module _ (v : Shown) (db : Database) where
     pub at_home : (stmt : Stmt) (d : Decision) → ((opening : Opening) (seen : Seen) → Setting opening opening.source v seen → IsDecision opening opening.source v seen stmt d) → Decides v db stmt d
     at_home stmt d h opening current seen setting means = subst (λ (c : List ℕ). IsDecision opening c v seen stmt d) (sym (home_means opening.source current means)) (h opening seen setting)
 
-    pub bad_definition : (name : List ℕ) (cols : List Column) → is_built (CreateTable name cols) ≡ true → (length cols == 0) ≡ true → Decides v db (CreateTable name cols) (now (plain 60016))
-    bad_definition name cols b e = at_home (CreateTable name cols) (now (plain 60016)) (λ opening seen setting.
-        refuses_only opening opening.source opening.source v seen (CreateTable name cols) (AtOnce (Msg (plain 60016))) 60016 Nothing refl refl refl setting tt (bad_comes opening opening.source seen _ refl name cols b e))
+    pub bad_definition : (name : List ℕ) (cols : List Column) → (length cols == 0) ≡ true → Decides v db (CreateTable name cols) (now (plain 60016))
+    bad_definition name cols e = at_home (CreateTable name cols) (now (plain 60016)) (λ opening seen setting.
+        refuses_only opening opening.source opening.source v seen (CreateTable name cols) (AtOnce (Msg (plain 60016))) 60016 Nothing refl refl refl setting tt (bad_comes opening opening.source seen _ refl name cols e))
 
   no_memory : (stmt : Stmt) → is_of_tables stmt ≡ true → IsPlain stmt (Msg (plain 701)) → (opening : Opening) (seen : Seen) → Setting opening opening.source v seen → IsDecision opening opening.source v seen stmt (now (plain 701))
   no_memory stmt of simple opening seen setting =
@@ -140,13 +139,14 @@ broken v db at opening current seen setting means =
     refuses_only opening opening.source current v seen (Broken at) (AtOnce (Msg (at_place 102 at))) 102 (Number at) refl refl refl setting tt (broken_comes opening current seen (catalog v) setting.ordered setting.apart db means at)
 
 -- a statement of no kind that is built
-pub other : (stmt : Stmt) → ((d : List ℕ) → stmt ≡ UseDb d → ⊥) → ((n : List ℕ) (cols : List Column) → stmt ≡ CreateTable n cols → ⊥) → ((i : InsertStmt) → stmt ≡ Insert i → ⊥) → ((s : SelectStmt) → stmt ≡ Select s → ⊥) → ((u : UpdateStmt) → stmt ≡ Update u → ⊥)
+pub other : (stmt : Stmt) → ((d : List ℕ) → stmt ≡ UseDb d → ⊥) → ((n : List ℕ) (cols : List Column) → stmt ≡ CreateTable n cols → ⊥) → ((i : InsertStmt) → stmt ≡ Insert i → ⊥) → ((s : SelectStmt) → stmt ≡ Select s → ⊥) → ((u : UpdateStmt) → stmt ≡ Update u → ⊥) → ((d : DeleteStmt) → stmt ≡ Delete d → ⊥)
     → ((snap : List ℕ) (files : List SnapFile) (of : List ℕ) → stmt ≡ CreateSnap snap files of → ⊥) → ((at : ℕ) → stmt ≡ Broken at → ⊥) → (is_built stmt ≡ false) × IsPlain stmt (Msg (plain 60098))
-other (UseDb d) a b c e f g h = absurd (a d refl)
-other (CreateTable n cols) a b c e f g h = absurd (b n cols refl)
-other (Insert i) a b c e f g h = absurd (c i refl)
-other (Select s) a b c e f g h = absurd (e s refl)
-other (Update u) a b c e f g h = absurd (f u refl)
-other (CreateSnap snap files of) a b c e f g h = absurd (g snap files of refl)
-other (Broken at) a b c e f g h = absurd (h at refl)
-other stmt a b c e f g h = (refl, tt)
+other (UseDb d) a b c e f x g h = absurd (a d refl)
+other (CreateTable n cols) a b c e f x g h = absurd (b n cols refl)
+other (Insert i) a b c e f x g h = absurd (c i refl)
+other (Select s) a b c e f x g h = absurd (e s refl)
+other (Update u) a b c e f x g h = absurd (f u refl)
+other (Delete d) a b c e f x g h = absurd (x d refl)
+other (CreateSnap snap files of) a b c e f x g h = absurd (g snap files of refl)
+other (Broken at) a b c e f x g h = absurd (h at refl)
+other stmt a b c e f x g h = (refl, tt)

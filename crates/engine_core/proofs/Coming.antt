@@ -6,10 +6,8 @@ use Rattle.page_base.specs.declared.column.Column.{Column}
 use Rattle.page_base.specs.declared.numbers.Mode.{Mode}
 use Rattle.page_base.specs.declared.numbers.Mode.TheVariants.{S, X}
 use Rattle.plain_model.specs.declared.stmt.Stmt.{Stmt}
-use Rattle.plain_model.specs.declared.stmt.Stmt.TheVariants.{CreateTable, Insert, Select, Update}
-use Rattle.plain_model.specs.declared.stmt.InsertStmt.{InsertStmt}
+use Rattle.plain_model.specs.declared.stmt.Stmt.TheVariants.{CreateTable, Insert, Select, Update, Delete}
 use Rattle.plain_model.specs.declared.stmt.SelectStmt.{SelectStmt}
-use Rattle.plain_model.specs.declared.stmt.UpdateStmt.{UpdateStmt}
 use Rattle.plain_model.specs.declared.event.LockName.{LockName}
 use Rattle.plain_model.specs.declared.event.LockName.TheVariants.{All, Table}
 use Rattle.plain_model.specs.declared.reply.Message.{Message}
@@ -19,8 +17,11 @@ use Rattle.plain_model.specs.Tables.{apply}
 use Rattle.plain_model.specs.Journal.{Opening}
 use Rattle.plain_model.specs.State.{Plain, Snap, session, is_suspect, is_source, see, committed}
 use Rattle.plain_model.specs.Holding.{holds}
-use Rattle.plain_model.specs.Meaning.{plain, shape, change_and_reply}
-use Rattle.plain_model.specs.Next.{Next, Replies, Wants, unless, unless_shape, under, answers, no_write, next_built, next_of, is_built}
+use Rattle.plain_model.specs.Messages.{plain}
+use Rattle.plain_model.specs.Meaning.{shape, change_and_reply}
+use Rattle.plain_model.specs.Next.{Next, Replies, Wants, unless, unless_shape, under, answers, no_write, next_built, next_change, next_of, is_built}
+use Rattle.plain_model.specs.Statements.{table_named}
+use Rattle.engine_core.specs.Changing.{is_change}
 use Rattle.plain_model.specs.Free.{NoRoom, may_grow, is_success}
 use Rattle.engine_core.specs.declared.answer.Answer.TheVariants.{AtOnce, UnderAll, UnderTable}
 use Rattle.engine_core.specs.Ready.{Locks, Seen, Ready, Comes}
@@ -75,20 +76,29 @@ pub record IsOfTable (stmt : Stmt) (table : List ℕ) (mode : Mode) : Type 0 whe
   pub next : (opening : Opening) (current : List ℕ) (seen : Seen) (st : Plain) (k : ℕ) (locks : Locks) → Ready opening current seen st k locks → current ≡ opening.source →
       next_built st k stmt ≡ under st k All S (unless_shape (shape stmt seen.source) (under st k (Table table) mode (answers stmt seen.source)))
 
-pub of_insert : (i : InsertStmt) → is_built (Insert i) ≡ true → IsOfTable (Insert i) i.table X
-of_insert i b = record {
-  built = b;
-  next = λ opening current seen st k locks ready here.
-      may_write opening current seen st k locks ready here (under st k All S (unless_shape (shape (Insert i) (see st k)) (under st k (Table i.table) X (answers (Insert i) (see st k)))))
-      ∙ ap (λ t. under st k All S (unless_shape (shape (Insert i) t) (under st k (Table i.table) X (answers (Insert i) t)))) (seen_tables opening current seen st k locks ready);
-}
+-- a change of rows is a write of its table
+next_change_is : (st : Plain) (k : ℕ) (stmt : Stmt) → is_change stmt ≡ true → next_built st k stmt ≡ next_change st k stmt (table_named stmt)
+next_change_is st k (Insert i) h = refl
+next_change_is st k (Update u) h = refl
+next_change_is st k (Delete d) h = refl
+next_change_is st k stmt h = absurd (let x : false ≡ true = h in cc)
 
-pub of_update : (u : UpdateStmt) → is_built (Update u) ≡ true → IsOfTable (Update u) u.table X
-of_update u b = record {
-  built = b;
+pub change_built : (stmt : Stmt) → is_change stmt ≡ true → is_built stmt ≡ true
+change_built (Insert i) h = refl
+change_built (Update u) h = refl
+change_built (Delete d) h = refl
+change_built stmt h = absurd (let x : false ≡ true = h in cc)
+
+pub change_next : (st : Plain) (k : ℕ) (stmt : Stmt) → is_change stmt ≡ true → next_of st k (Some stmt) ≡ next_change st k stmt (table_named stmt)
+change_next st k stmt h = built st k stmt (change_built stmt h) ∙ next_change_is st k stmt h
+
+pub of_change : (stmt : Stmt) → is_change stmt ≡ true → IsOfTable stmt (table_named stmt) X
+of_change stmt h = record {
+  built = change_built stmt h;
   next = λ opening current seen st k locks ready here.
-      may_write opening current seen st k locks ready here (under st k All S (unless_shape (shape (Update u) (see st k)) (under st k (Table u.table) X (answers (Update u) (see st k)))))
-      ∙ ap (λ t. under st k All S (unless_shape (shape (Update u) t) (under st k (Table u.table) X (answers (Update u) t)))) (seen_tables opening current seen st k locks ready);
+      next_change_is st k stmt h
+      ∙ may_write opening current seen st k locks ready here (under st k All S (unless_shape (shape stmt (see st k)) (under st k (Table (table_named stmt)) X (answers stmt (see st k)))))
+      ∙ ap (λ t. under st k All S (unless_shape (shape stmt t) (under st k (Table (table_named stmt)) X (answers stmt t)))) (seen_tables opening current seen st k locks ready);
 }
 
 pub of_select : (s : SelectStmt) → is_built (Select s) ≡ true → IsOfTable (Select s) s.table S
@@ -141,13 +151,13 @@ module _ (opening : Opening) (current : List ℕ) (seen : Seen) (snaps : List Sn
 
 -- CREATE TABLE IN THE SOURCE
 
-module _ (opening : Opening) (current : List ℕ) (seen : Seen) (snaps : List Snap) (here : current ≡ opening.source) (name : List ℕ) (cols : List Column) (b : is_built (CreateTable name cols) ≡ true) where
+module _ (opening : Opening) (current : List ℕ) (seen : Seen) (snaps : List Snap) (here : current ≡ opening.source) (name : List ℕ) (cols : List Column) where
   stmt_here : Stmt
   stmt_here = CreateTable name cols
 
   past : (st : Plain) (k : ℕ) (locks : Locks) → Ready opening current seen st k locks → next_of st k (Some (CreateTable name cols)) ≡ cond (length cols == 0) (Replies (Msg (plain 60016))) (under st k All X (unless_shape (shape (CreateTable name cols) seen.source) (answers (CreateTable name cols) seen.source)))
   past st k locks ready =
-      built st k (CreateTable name cols) b
+      built st k (CreateTable name cols) refl
       ∙ may_write opening current seen st k locks ready here _
       ∙ (let d = ready.depth in rw d refl)
       ∙ ap (λ t. cond (length cols == 0) (Replies (Msg (plain 60016))) (under st k All X (unless_shape (shape (CreateTable name cols) t) (answers (CreateTable name cols) t)))) (seen_tables opening current seen st k locks ready)

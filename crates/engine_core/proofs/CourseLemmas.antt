@@ -2,7 +2,6 @@
 use Rattle.std.proofs.Common.{◌≡◌, ◌≢◌, ◌+◌, ◌<◌, ◌≤◌, ◌⊎◌, inl, inr, ℕ, Bool, true, false, cond, IsTrue, List, [], length, get_or, refl, ap, sym, ◌∙◌, subst, arith}
 use Rattle.std.proofs.Math.ListN.{set}
 use Rattle.std.specs.Prelude.{Option, Some, None, slice_get}
-use Rattle.std.specs.FinMap as finite
 use Rattle.std.proofs.lemmas.Option.{slice_get-get_or, get_or_from_slice_get}
 use Rattle.page_base.specs.declared.numbers.SnapNo.{SnapNo}
 use Rattle.plain_model.specs.declared.stmt.Stmt.{Stmt}
@@ -13,9 +12,10 @@ use Rattle.plain_model.specs.declared.reply.Message.{Message}
 use Rattle.plain_model.specs.declared.reply.Reply.{Reply}
 use Rattle.plain_model.specs.declared.reply.Reply.TheVariants.{Msg, Rows, Count}
 use Rattle.plain_model.specs.declared.reply.Reply.TheVariants.{Ok as Fine}
-use Rattle.plain_model.specs.Tables.{Table, Tables}
+use Rattle.plain_model.specs.Tables.{Tables}
 use Rattle.plain_model.specs.State.{committed, copy}
-use Rattle.plain_model.specs.Meaning.{plain, shape, change_and_reply}
+use Rattle.plain_model.specs.Messages.{plain}
+use Rattle.plain_model.specs.Meaning.{shape, change_and_reply}
 use Rattle.plain_model.specs.Next.{Replies, unless_shape, answers, is_built}
 use Rattle.snap_pages.specs.declared.state.SnapState.{SnapState}
 use Rattle.snap_pages.specs.declared.state.SnapState.TheVariants.{Making, Online, Suspect}
@@ -37,7 +37,7 @@ use Rattle.engine_core.specs.Ready.{Seen, Comes, reply_of}
 use Rattle.engine_core.specs.Stepping.{tables_after, current_after, IsPlain}
 use Rattle.engine_core.specs.Seeing.{selected, unless_refused}
 use Rattle.engine_core.specs.Deciding.{AreApart, Setting, IsDecision, IsStill, IsSeeing, IsCut, IsCourse}
-use Rattle.engine_core.specs.Safe.{Run, state, seen_by, seat_at, no_seat, script_at, AreInts, AreTables, Safe}
+use Rattle.engine_core.specs.Safe.{Run, state, seen_by, seat_at, no_seat, script_at, AreTables, Safe}
 use Rattle.engine_core.specs.Doing.{Does}
 use Rattle.engine_core.specs.Steps.{next_stmt, HasNext}
 use Rattle.engine_core.proofs.AtOnce.{memory_comes, select_lost, select_comes}
@@ -116,7 +116,6 @@ module _ (e : Run) (safe : Safe e) (i : ℕ) (next : HasNext e i) where
     ordered = ordered;
     apart = safe.machine.apart;
     none = record { there = λ k d lt. absurd (omega (arith, lt)); fits = tt; changes = tt; says = safe.pages.source.says; packed = safe.pages.source.packed };
-    ints = safe.pages.ints;
   }
 
   pub few_pages : data_pages e.shown < 4294967295
@@ -147,7 +146,7 @@ module _ (e : Run) (safe : Safe e) (i : ℕ) (next : HasNext e i) where
       (tables : AreTables (data_pages v) (img v) (tables_after (next_stmt e i) (reply_of d.answer) (committed (state e)))) where
     safe_answer' : Safe (record e { shown = v; seats = set e.seats i (record { current = current_after (next_stmt e i) (reply_of d.answer) (seat_at e i).current; said = (seat_at e i).said + 1; gone = false }); kept = kept })
     safe_answer' = safe_statement e safe i next.there here (next_stmt e i) says d.answer decided.simple v kept does
-        (λ told. under_locks e (seat_at e i).current (seen_by (state e)) e.shown v (next_stmt e i) d.answer d.edits decided.still still decided.comes) tables decided.ints
+        (λ told. under_locks e (seat_at e i).current (seen_by (state e)) e.shown v (next_stmt e i) d.answer d.edits decided.still still decided.comes) tables
 
     pub safe_answer : (seat : Seat) (stmt : Stmt) (after : List ℕ) → seat ≡ seat_at e i → next_stmt e i ≡ stmt → after ≡ current_after stmt (reply_of d.answer) seat.current →
         Safe (record e { shown = v; seats = set e.seats i (record { current = after; said = seat.said + 1; gone = false }); kept = kept })
@@ -216,7 +215,6 @@ module _ (e : Run) (safe : Safe e) (i : ℕ) (next : HasNext e i) where
     safe_see' = safe_statement e safe i next.there here (next_stmt e i) says (AtOnce reply) simple v kept does
         (λ told. subst (λ (x : Stmt). Comes e.opening current seen (snaps_of v) x (AtOnce reply)) (sym seeing.is) (comes_now told))
         (same_tables (data_pages e.shown) (data_pages v) (img e.shown) (img v) (committed (state e)) (tables_after (next_stmt e i) reply (committed (state e))) (same_pages e.shown v pushes.counts) pushes.img stays safe.pages.source)
-        (subst AreInts (sym stays) safe.pages.ints)
 
     safe_see_here : Safe (record e { shown = v; seats = set e.seats i (record { current = current; said = (seat_at e i).said + 1; gone = (seat_at e i).gone }); kept = kept })
     safe_see_here = subst (λ (c : List ℕ). Safe (record e { shown = v; seats = set e.seats i (record { current = c; said = (seat_at e i).said + 1; gone = (seat_at e i).gone }); kept = kept })) keeps

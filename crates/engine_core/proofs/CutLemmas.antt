@@ -14,7 +14,7 @@ use Rattle.plain_model.specs.declared.reply.Reply.{Reply}
 use Rattle.plain_model.specs.declared.reply.Reply.TheVariants.{Msg}
 use Rattle.plain_model.specs.Journal.{Opening}
 use Rattle.plain_model.specs.State.{Session, session, is_source, is_restoring, fresh_session}
-use Rattle.plain_model.specs.Meaning.{plain}
+use Rattle.plain_model.specs.Messages.{plain}
 use Rattle.plain_model.specs.Next.{Next, Replies, Cuts, unless, is_database, is_each_once, is_taken, is_full, logical_names, no_snap, no_room, next_snap, next_of}
 use Rattle.plain_model.specs.Next as next
 use Rattle.plain_model.specs.Free.{IsMaking, NoMemoryToCut, FileFailed, NameTaken, is_doubtful}

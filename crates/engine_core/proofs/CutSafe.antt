@@ -43,7 +43,7 @@ use Rattle.engine_core.specs.Databases.{Means}
 use Rattle.engine_core.specs.declared.database.Database.TheVariants.{Absent}
 use Rattle.engine_core.specs.Pushing.{plainly, weight, snaps_of, sound, name_of}
 use Rattle.engine_core.specs.Stepping.{number, idle, busy, mid}
-use Rattle.engine_core.specs.Safe.{Run, Disk, state, seat_at, InStep, AreTables, AreInts, AreCopies, sparse_names, AreOut, AreBlamed, Safe}
+use Rattle.engine_core.specs.Safe.{Run, Disk, state, seat_at, InStep, AreTables, AreCopies, sparse_names, AreOut, AreBlamed, Safe}
 use Rattle.engine_core.specs.Creating.{IsAsked, IsNew, new_snap, with_snap, cut_events}
 use Rattle.engine_core.proofs.PushLemmas.{bytes_same, bytes_ne}
 use Rattle.engine_core.proofs.Stepping.{both, session_mid, session_there, after_said}
@@ -330,7 +330,6 @@ module _ (source file : List ℕ) (disk0 : Disk) (v0 : Shown) (snap : List ℕ) 
     file = subst (λ (cs : List ℕ). cs ≡ get_or cs 0 0 ∷ []) (sym counts_same) asked.safe.pages.file;
     few = subst (λ (cs : List ℕ). get_or cs 0 0 ≤ 32768) (sym counts_same) asked.safe.pages.few;
     source = same_tables (data_pages e.shown) (data_pages v) (img e.shown) (img v) (committed st) (committed (state next)) pages_same images_same committed_is asked.safe.pages.source;
-    ints = subst AreInts (sym committed_is) asked.safe.pages.ints;
     copies = copies_now;
   }
 

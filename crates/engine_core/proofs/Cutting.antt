@@ -20,7 +20,7 @@ use Rattle.plain_model.specs.declared.reply.Reply.{Reply}
 use Rattle.plain_model.specs.declared.reply.Reply.TheVariants.{Msg}
 use Rattle.plain_model.specs.Tables.{Tables}
 use Rattle.plain_model.specs.Journal.{Opening}
-use Rattle.plain_model.specs.Meaning.{plain}
+use Rattle.plain_model.specs.Messages.{plain}
 use Rattle.plain_model.specs.Next.{Cuts, next_of}
 use Rattle.plain_model.specs.Next as next_words
 use Rattle.plain_model.specs.Free.{IsFree}
@@ -36,7 +36,7 @@ use Rattle.engine_core.specs.Entering.{Kept, entered}
 use Rattle.engine_core.specs.Pushing.{sound, name_of}
 use Rattle.engine_core.specs.Ready.{Allowed}
 use Rattle.engine_core.specs.Stepping.{number, idle, busy, mid, Around}
-use Rattle.engine_core.specs.Safe.{Run, Disk, state, seat_at, script_at, InStep, AreSeated, marks_of, AreInts, AreTables, is_turn, HasRoom, Safe}
+use Rattle.engine_core.specs.Safe.{Run, Disk, state, seat_at, script_at, InStep, AreSeated, marks_of, AreTables, is_turn, HasRoom, Safe}
 use Rattle.engine_core.specs.Causes.{IsNoShortage, IsVolumeReply}
 use Rattle.engine_core.specs.Creating.{IsAsked, Refuses}
 use Rattle.engine_core.proofs.Stepping.{start_mid, session_mid, after_said, legal_append, end_append}
@@ -258,7 +258,6 @@ module _ (source file : List ℕ) (disk0 : Disk) (v0 : Shown) (snap : List ℕ) 
         file = asked.safe.pages.file;
         few = asked.safe.pages.few;
         source = subst (λ (t : Tables). AreTables (data_pages e.shown) (img e.shown) t) (sym committed_is) asked.safe.pages.source;
-        ints = subst AreInts (sym committed_is) asked.safe.pages.ints;
         copies = λ s is_kept. subst (λ (t : Tables). AreTables (data_pages e.shown) (view e.shown s) t) (sym (copy_is (name_of e.shown s))) (asked.safe.pages.copies s is_kept);
       };
       files = record {

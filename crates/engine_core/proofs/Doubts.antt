@@ -7,7 +7,7 @@ use Rattle.std.proofs.lemmas.Bool.{cases_Bool}
 use Rattle.std.proofs.lemmas.List.Folds.{list_any-append}
 use Rattle.std.proofs.lemmas.Slice.Eq.{bytes_eq-Decides}
 use Rattle.plain_model.specs.declared.stmt.Stmt.{Stmt}
-use Rattle.plain_model.specs.declared.stmt.Stmt.TheVariants.{CreateTable, Insert, Update, CreateSnap}
+use Rattle.plain_model.specs.declared.stmt.Stmt.TheVariants.{CreateTable, Insert, Update, Delete, CreateSnap}
 use Rattle.plain_model.specs.declared.event.Event.{Event}
 use Rattle.plain_model.specs.declared.event.Event.TheVariants.{Locked, CutAt, RestoreAt, Turned, Said, Left}
 use Rattle.plain_model.specs.declared.reply.Message.{Message}
@@ -81,6 +81,9 @@ effect_known st k (Some (Insert i)) (Rows rs) h = changes_known st k (change_and
 effect_known st k (Some (Update u)) Ok h = changes_known st k (change_and_reply (Update u) (see st k)).0 h
 effect_known st k (Some (Update u)) (Count n) h = changes_known st k (change_and_reply (Update u) (see st k)).0 h
 effect_known st k (Some (Update u)) (Rows rs) h = changes_known st k (change_and_reply (Update u) (see st k)).0 h
+effect_known st k (Some (Delete d)) Ok h = changes_known st k (change_and_reply (Delete d) (see st k)).0 h
+effect_known st k (Some (Delete d)) (Count n) h = changes_known st k (change_and_reply (Delete d) (see st k)).0 h
+effect_known st k (Some (Delete d)) (Rows rs) h = changes_known st k (change_and_reply (Delete d) (see st k)).0 h
 effect_known st k stmt (Msg m) h = h
 effect_known st k stmt Ok h = h
 effect_known st k stmt (Count n) h = h

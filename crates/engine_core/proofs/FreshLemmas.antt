@@ -1,12 +1,10 @@
 -- An engine at its beginning.
 use Rattle.std.proofs.Common.{◌≡◌, ◌+◌, ◌*◌, ◌<◌, ◌≤◌, inr, ℕ, suc, zero, true, false, List, [], ◌∷◌, length, map, get_or, replicate, refl, ap, sym, ◌∙◌, subst, arith}
-use Rattle.std.specs.Prelude.{Some, None, sum_by}
+use Rattle.std.specs.Prelude.{sum_by}
 use Rattle.std.specs.List.{list_any, filter_map, flat_map}
 use Rattle.std.specs.Str.{bytes_eq}
 use Rattle.std.specs.FinMap as finite
 use Rattle.std.specs.FinSet as finset
-use Rattle.std.specs.Ordering.{nat_cmp}
-use Rattle.std.specs.Cmp.Lexicographic.{slice_cmp}
 use Rattle.std.proofs.lemmas.List.Sums.{sum_by-cons}
 use Rattle.std.proofs.lemmas.Map.Text.{is_eq-slice_cmp}
 use Rattle.std.proofs.lemmas.List.{get_or-map, length-map}
@@ -32,7 +30,7 @@ use Rattle.engine_core.specs.declared.seat.Seat.{Seat}
 use Rattle.engine_core.specs.Opened.{names_of, new_source}
 use Rattle.engine_core.specs.Pushing.{plainly, sound, weight}
 use Rattle.engine_core.specs.Stepping.{idle}
-use Rattle.engine_core.specs.Safe.{Run, state, seat_at, no_seat, InStep, AreSeated, AreCopies, AreOut, AreBlamed, AreInts, marks_of, is_turn, HasRoom, AreTables, dues, Safe}
+use Rattle.engine_core.specs.Safe.{Run, state, seat_at, no_seat, InStep, AreSeated, AreCopies, AreOut, AreBlamed, marks_of, is_turn, HasRoom, AreTables, dues, Safe}
 
 -- the names of a folder are those that have a place there
 pub names_there : (folder : Folder) (name : List ℕ) → finite.contains_key folder name ≡ list_any (bytes_eq name) (names_of folder)
@@ -109,7 +107,6 @@ module _ (e : Run) (source file : List ℕ) (folder : Folder) (opening : e.openi
       says = blank_tables (data_pages e.shown) (slots_of (img e.shown)) (blank_slots (img e.shown) images);
       packed = blank_packed (data_pages e.shown) (slots_of (img e.shown)) (blank_slots (img e.shown) images);
     });
-    ints = subst AreInts (sym no_tables) (λ name t h. absurd (let x : None ≡ Some t = sym (finite.get-empty (slice_cmp nat_cmp) name) ∙ h in cc));
     copies = λ s kept. absurd (none_kept s kept);
   }
 

@@ -23,7 +23,7 @@ use Rattle.engine_core.specs.declared.seat.Seat.{Seat}
 use Rattle.engine_core.specs.Entering.{entered}
 use Rattle.engine_core.specs.Pushing.{name_of}
 use Rattle.engine_core.specs.Stepping.{number, idle, Around}
-use Rattle.engine_core.specs.Safe.{Run, state, seat_at, script_at, InStep, AreSeated, IsSeated, marks_of, AreInts, AreTables, AreCopies, AreOut, is_turn, AreBlamed, HasRoom, Safe}
+use Rattle.engine_core.specs.Safe.{Run, state, seat_at, script_at, InStep, AreSeated, IsSeated, marks_of, AreTables, AreCopies, AreOut, is_turn, AreBlamed, HasRoom, Safe}
 use Rattle.engine_core.proofs.Stepping.{legal_append, end_append}
 use Rattle.engine_core.proofs.SafeLemmas.{either}
 use Rattle.engine_core.proofs.SeatLemmas.{around, session_is, seated_next, dues_set}
@@ -105,7 +105,6 @@ module _ (e : Run) (safe : Safe e) (i : ℕ) (lt : i < length e.scripts) (here :
     file = safe.pages.file;
     few = safe.pages.few;
     source = subst (λ (t : Tables). AreTables (data_pages e.shown) (img e.shown) t) (sym committed_is) safe.pages.source;
-    ints = subst AreInts (sym committed_is) safe.pages.ints;
     copies = λ s kept. subst (λ (st : Plain). AreTables (data_pages e.shown) (view e.shown s) (copy st (name_of e.shown s))) (sym leads) (safe.pages.copies s kept);
   }
 

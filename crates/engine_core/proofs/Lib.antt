@@ -6,9 +6,10 @@ mod Coming
 mod Placed
 mod AtOnce
 mod EditLemmas
+mod Mild
 mod SelectLemmas
 mod SeeLemmas
-mod SetsLemmas
+mod ChangeLemmas
 mod Decisions
 mod Choices
 mod AnswerLemmas

@@ -20,7 +20,7 @@ use Rattle.plain_model.specs.declared.event.Event.TheVariants.{CutAt, Said}
 use Rattle.plain_model.specs.declared.reply.Reply.{Reply}
 use Rattle.plain_model.specs.declared.reply.Reply.TheVariants.{Msg}
 use Rattle.plain_model.specs.declared.reply.Reply.TheVariants as reply
-use Rattle.plain_model.specs.Meaning.{plain}
+use Rattle.plain_model.specs.Messages.{plain}
 use Rattle.page_base.specs.declared.numbers.SessNo.{SessNo}
 use Rattle.page_dev.proofs.OutLemmas.{put_back}
 use Rattle.snap_pages.specs.Catalog.{Snap, no_snap}

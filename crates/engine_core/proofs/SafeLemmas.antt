@@ -36,7 +36,7 @@ use Rattle.engine_core.specs.Entering.{Kept}
 use Rattle.engine_core.specs.Pushing.{plainly, snaps_of, name_of, faults_of, Leaves, IsTurn}
 use Rattle.engine_core.specs.Ready.{Comes, reply_of, locks_of}
 use Rattle.engine_core.specs.Stepping.{number, idle, mid, first_of, lock_events, statement_events, tables_after, current_after, IsPlain, Around, is_lost, Moves}
-use Rattle.engine_core.specs.Safe.{Run, state, seen_by, seat_at, script_at, InStep, AreSeated, IsSeated, marks_of, AreInts, AreTables, AreCopies, sparse_names, AreOut, is_turn, AreBlamed, HasRoom, Safe}
+use Rattle.engine_core.specs.Safe.{Run, state, seen_by, seat_at, script_at, InStep, AreSeated, IsSeated, marks_of, AreTables, AreCopies, sparse_names, AreOut, is_turn, AreBlamed, HasRoom, Safe}
 use Rattle.engine_core.specs.Doing.{Does}
 use Rattle.engine_core.proofs.PushLemmas.{bytes_ne, still_lost}
 use Rattle.engine_core.proofs.Stepping.{Effects, effects_of, leads_all, legal_all, legal_append, end_append}
@@ -95,7 +95,7 @@ events_few k n b (UnderTable name mode r) es = simp length-append (omega arith)
 module _ (e : Run) (safe : Safe e) (i : ℕ) (lt : i < length e.scripts) (here : (seat_at e i).gone ≡ false) (stmt : Stmt) (says : slice_get (script_at e i) (seat_at e i).said ≡ Some stmt)
     (answer : Answer) (simple : IsPlain stmt (reply_of answer)) (v : Shown) (kept : Kept) (does : Does (i + 1) ((seat_at e i).said + 1) answer e.kept kept e.shown v)
     (comes : IsTrue e.disk.told → Comes e.opening (seat_at e i).current (seen_by (state e)) (snaps_of v) stmt answer)
-    (tables : AreTables (data_pages v) (img v) (tables_after stmt (reply_of answer) (committed (state e)))) (ints : AreInts (tables_after stmt (reply_of answer) (committed (state e)))) where
+    (tables : AreTables (data_pages v) (img v) (tables_after stmt (reply_of answer) (committed (state e)))) where
   abbrev said : ℕ
   said = (seat_at e i).said
 
@@ -229,7 +229,6 @@ module _ (e : Run) (safe : Safe e) (i : ℕ) (lt : i < length e.scripts) (here :
     file = does.leaves.counts ∙ safe.pages.file ∙ ap (λ (cs : List ℕ). get_or cs 0 0 ∷ []) (sym does.leaves.counts);
     few = let f = safe.pages.few in let c : get_or (counts v) 0 0 ≡ get_or (counts e.shown) 0 0 = ap (λ (cs : List ℕ). get_or cs 0 0) does.leaves.counts in omega (arith, f, c);
     source = subst (λ (t : Tables). AreTables (data_pages v) (img v) t) (sym committed_is) tables;
-    ints = subst AreInts (sym committed_is) ints;
     copies = λ s kept. let k = does.leaves.views.each s kept in
         same_tables (data_pages e.shown) (data_pages v) (view e.shown s) (view v s) (copy (state e) (name_of e.shown s)) (copy (state next) (name_of v s)) (same_pages e.shown v does.leaves.counts) k.1
         (copy_is (name_of v s) ∙ ap (copy (state e)) (name_same s)) (safe.pages.copies s k.0);

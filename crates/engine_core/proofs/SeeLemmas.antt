@@ -9,7 +9,7 @@ use Rattle.page_fmt.specs.Edits.{slot_at}
 use Rattle.std.specs.Prelude.{Some}
 use Rattle.plain_model.specs.declared.stmt.Stmt.{Stmt}
 use Rattle.plain_model.specs.Tables.{Table, Tables}
-use Rattle.plain_model.specs.Meaning.{plain}
+use Rattle.plain_model.specs.Messages.{plain}
 use Rattle.plain_model.specs.declared.reply.Reply.{Reply}
 use Rattle.plain_model.specs.declared.reply.Reply.TheVariants.{Msg}
 use Rattle.snap_pages.specs.declared.state.Place.{Place}

@@ -1,16 +1,14 @@
 -- What a SELECT answers asks for no cause, and changes nothing.
-use Rattle.std.proofs.Common.{◌≡◌, ℕ, ◌+◌, Bool, true, false, List, [], ◌∷◌, map, refl, subst, sym, ◌∙◌}
+use Rattle.std.proofs.Common.{◌≡◌, ℕ, Bool, true, false, List, [], ◌∷◌, map, refl, subst, sym}
 use Rattle.std.specs.Prelude.{Option, Some, None, option_map, IfOk, ◌||◌}
 use Rattle.std.specs.declared.result.Result.{Result}
 use Rattle.std.specs.declared.result.Result.TheVariants as result
 use Rattle.std.specs.List.{list_any}
 use Rattle.plain_model.specs.Names.{is_unknown}
-use Rattle.std.proofs.lemmas.Bool.{eqb-false}
 use Rattle.page_base.specs.declared.column.Column.{Column}
 use Rattle.page_base.specs.declared.value.Value.{Value}
 use Rattle.plain_model.specs.declared.expr.Expr.{Expr}
 use Rattle.plain_model.specs.declared.reply.Message.{Message}
-use Rattle.plain_model.specs.declared.reply.Carried.TheVariants.{Number}
 use Rattle.plain_model.specs.declared.reply.Reply.{Reply}
 use Rattle.plain_model.specs.declared.reply.Reply.TheVariants.{Ok, Count, Rows, Msg}
 use Rattle.plain_model.specs.declared.stmt.Items.{Items}
@@ -21,69 +19,29 @@ use Rattle.plain_model.specs.declared.stmt.Stmt.{Stmt}
 use Rattle.plain_model.specs.declared.stmt.Stmt.TheVariants.{Select}
 use Rattle.plain_model.specs.declared.stmt.Sum.{Sum}
 use Rattle.plain_model.specs.Messages.{plain, first_that}
-use Rattle.plain_model.specs.Outcomes.{Outcome, Refused, Passed, Taken, after_row, taken_from, all_of, or_overflow, keeps, behind}
+use Rattle.plain_model.specs.Outcomes.{taken_from, all_of, or_overflow, keeps}
 use Rattle.plain_model.specs.Selecting.{shown, shown_of, selected_row, rows_reply, select_rows}
-use Rattle.plain_model.specs.Shapes.{select_fault, are_lost, are_ill, is_lost_filter, is_ill_filter}
-use Rattle.plain_model.specs.Statements.{selected, shape_over, data_over}
+use Rattle.plain_model.specs.Shapes.{are_lost, are_ill, is_lost_filter, is_ill_filter}
+use Rattle.plain_model.specs.Statements.{selected}
 use Rattle.plain_model.specs.Tables.{Table, Tables, rows_of}
 use Rattle.plain_model.specs.Totals.{argument, summed_row, totals_reply, totals_row, aggregates_from}
 use Rattle.snap_pages.specs.Shown.{Shown}
-use Rattle.engine_core.specs.Causes.{IsNoShortage, IsNoFailure, IsRoomReply}
+use Rattle.engine_core.specs.Causes.{IsNoShortage, IsRoomReply}
 use Rattle.engine_core.specs.Seeing.{unless_refused, replied, IsSelect}
 use Rattle.engine_core.specs.Stepping.{tables_after}
-
--- the reply says neither that there is no room nor that the volume failed
-abbrev pub IsHarmless : Reply → Type 0
-IsHarmless reply = IsNoShortage reply × IsNoFailure reply
-
--- a row isn't refused but for an overflow
-abbrev IsMild : {X : Type 0} → Outcome X → Type 0
-IsMild (Refused number) = number ≡ 8115
-IsMild Passed = Unit {0}
-IsMild (Taken x) = Unit {0}
-
--- neither are all rows
-abbrev AreMild : {X : Type 0} → Result (List X) Message → Type 0
-AreMild (result.Ok taken) = Unit {0}
-AreMild (result.Err m) = m.number ≡ 8115
-
-mild_overflow : {X : Type 0} (x : Option X) → IsMild (or_overflow x)
-mild_overflow None = refl
-mild_overflow (Some x) = tt
-
-mild_behind : {X : Type 0} (kept : Option Bool) (outcome : Outcome X) → IsMild outcome → IsMild (behind kept outcome)
-mild_behind None outcome h = refl
-mild_behind (Some true) outcome h = h
-mild_behind (Some false) outcome h = tt
-
-mild_after : {X : Type 0} (place : ℕ) (outcome : Outcome X) (later : Result (List X) Message) → IsMild outcome → AreMild later → AreMild (after_row place outcome later)
-mild_after place (Refused number) later h more = h
-mild_after place Passed later h more = more
-mild_after place (Taken x) (result.Ok xs) h more = tt
-mild_after place (Taken x) (result.Err m) h more = more
-
-mild_rows : {A X : Type 0} (f : A → Outcome X) → ((a : A) → IsMild (f a)) → (place : ℕ) (rows : List A) → AreMild (taken_from place (map f rows))
-mild_rows f h place [] = tt
-mild_rows f h place (row ∷ rows) = mild_after place (f row) (taken_from (place + 1) (map f rows)) (h row) (mild_rows f h (place + 1) rows)
-
--- a message of another number
-harmless_number : (m : Message) (n : ℕ) → m.number ≡ n → (n ≡ 1105 → ⊥) → (n ≡ 60021 → ⊥) → IsHarmless (Msg m)
-harmless_number m n is room volume = ((λ e. room (sym is ∙ e)), (λ e. volume (sym is ∙ e)))
-
-overflow : (m : Message) → m.number ≡ 8115 → IsHarmless (Msg m)
-overflow m is = harmless_number m 8115 is (eqb-false 8115 1105 refl) (eqb-false 8115 60021 refl)
+use Rattle.engine_core.proofs.Mild.{IsHarmless, IsMild, AreMild, other_numbers, mild_8115, mild_overflow, mild_behind, mild_rows}
 
 harmless_rows : (cols : List Column) (order : List OrderItem) (taken : Result (List (List Value × List Value)) Message) → AreMild taken → IsHarmless (rows_reply cols order taken)
 harmless_rows cols order (result.Ok taken) h = (tt, tt)
-harmless_rows cols order (result.Err m) h = overflow m h
+harmless_rows cols order (result.Err m) h = h
 
 harmless_row : (values : Option (List Value)) → IsHarmless (totals_row values)
-harmless_row None = overflow (record { number = 8115; carried = Number 0 }) refl
+harmless_row None = mild_8115
 harmless_row (Some values) = (tt, tt)
 
 harmless_totals : (cols : List Column) (sums : List Sum) (taken : Result (List (List Value)) Message) → AreMild taken → IsHarmless (totals_reply cols sums taken)
 harmless_totals cols sums (result.Ok taken) h = harmless_row (all_of (aggregates_from cols taken 0 sums))
-harmless_totals cols sums (result.Err m) h = overflow m h
+harmless_totals cols sums (result.Err m) h = h
 
 mild_selected : (items : Items) (filter : Option Expr) (cols : List Column) (row : List Value) → IsMild (selected_row items filter cols row)
 mild_selected items filter cols row =
@@ -106,8 +64,8 @@ harmless_selected (Sums ss) filter order t =
     harmless_totals t.cols ss (taken_from 1 (map (summed_row ss filter t.cols) (rows_of t))) (mild_rows (summed_row ss filter t.cols) (mild_summed ss filter t.cols) 1 (rows_of t))
 
 harmless_shape : (lost ill : Bool) (reply : Reply) → IsHarmless reply → IsHarmless (unless_refused (option_map plain (first_that ((lost, 207) ∷ (ill, 60013) ∷ []))) reply)
-harmless_shape true ill reply h = harmless_number (plain 207) 207 refl (eqb-false 207 1105 refl) (eqb-false 207 60021 refl)
-harmless_shape false true reply h = harmless_number (plain 60013) 60013 refl (eqb-false 60013 1105 refl) (eqb-false 60013 60021 refl)
+harmless_shape true ill reply h = other_numbers 207 refl refl
+harmless_shape false true reply h = other_numbers 60013 refl refl
 harmless_shape false false reply h = h
 
 -- what a SELECT answers over a table

@@ -8,7 +8,7 @@ use Rattle.std.proofs.lemmas.List.{get_or-set_same, get_or-set_other, set-set, s
 use Rattle.page_base.specs.declared.numbers.Mode.{Mode}
 use Rattle.page_base.specs.declared.numbers.Mode.TheVariants.{S}
 use Rattle.plain_model.specs.declared.stmt.Stmt.{Stmt}
-use Rattle.plain_model.specs.declared.stmt.Stmt.TheVariants.{UseDb, CreateTable, Insert, Update, CreateSnap}
+use Rattle.plain_model.specs.declared.stmt.Stmt.TheVariants.{UseDb, CreateTable, Insert, Update, Delete, CreateSnap}
 use Rattle.plain_model.specs.declared.event.Event.{Event}
 use Rattle.plain_model.specs.declared.event.Event.TheVariants.{Locked, Said}
 use Rattle.plain_model.specs.declared.event.LockName.{LockName}
@@ -166,6 +166,10 @@ module _ (st : Plain) (k : ℕ) (there : IsTrue (is_session st k)) where
     effects (Update u) Ok h = by_changes (Update u) Ok refl refl refl
     effects (Update u) (Count n) h = by_changes (Update u) (Count n) refl refl refl
     effects (Update u) (Rows rs) h = by_changes (Update u) (Rows rs) refl refl refl
+    effects (Delete d) (Msg x) h = stays (Delete d) (Msg x) refl refl refl
+    effects (Delete d) Ok h = by_changes (Delete d) Ok refl refl refl
+    effects (Delete d) (Count n) h = by_changes (Delete d) (Count n) refl refl refl
+    effects (Delete d) (Rows rs) h = by_changes (Delete d) (Rows rs) refl refl refl
     effects stmt (Msg x) h = stays stmt (Msg x) refl refl refl
     effects stmt Ok h = stays stmt Ok refl refl refl
     effects stmt (Count n) h = stays stmt (Count n) refl refl refl

@@ -10,7 +10,7 @@ use Rattle.plain_model.specs.declared.event.Event.{Event}
 use Rattle.plain_model.specs.declared.event.Event.TheVariants.{CutAt, Said}
 use Rattle.plain_model.specs.declared.reply.Reply.{Reply}
 use Rattle.plain_model.specs.declared.reply.Reply.TheVariants.{Ok, Msg}
-use Rattle.plain_model.specs.Meaning.{plain}
+use Rattle.plain_model.specs.Messages.{plain}
 use Rattle.snap_pages.specs.declared.state.SnapState.TheVariants.{Online}
 use Rattle.snap_pages.specs.Sparse.{Sparse}
 use Rattle.snap_pages.specs.Catalog.{Snap, Catalog}

@@ -22,7 +22,6 @@ use Rattle.engine_core.specs.Databases.{Means}
 use Rattle.engine_core.specs.Pushing.{is_suspect, snaps_of}
 use Rattle.engine_core.specs.Ready.{Seen, Comes, reply_of}
 use Rattle.engine_core.specs.Stepping.{tables_after, IsPlain}
-use Rattle.engine_core.specs.Safe.{AreInts}
 use Rattle.engine_core.specs.Causes.{IsRoomReply, IsNoFailure}
 
 -- no snapshot has the name of the source or of `master`
@@ -35,7 +34,6 @@ pub record Setting (opening : Opening) (source : List ℕ) (v : Shown) (seen : S
   pub ordered : IsCatalog (catalog v)
   pub apart : AreApart opening.source (catalog v)
   pub none : Carries v [] seen.source
-  pub ints : AreInts seen.source
 
 -- what is answered at once edits nothing
 abbrev pub IsStill : Answer → List Edit → Type 0
@@ -48,7 +46,6 @@ pub record IsDecision (opening : Opening) (current : List ℕ) (v : Shown) (seen
   pub simple : IsPlain stmt (reply_of d.answer)
   pub still : IsStill d.answer d.edits
   pub carries : Carries v d.edits (tables_after stmt (reply_of d.answer) seen.source)
-  pub ints : AreInts (tables_after stmt (reply_of d.answer) seen.source)
   pub room : IsRoomReply v stmt (reply_of d.answer)
   pub fine : IsNoFailure (reply_of d.answer)
 

@@ -1,4 +1,4 @@
-pub mod Ints
+pub mod Changing
 pub mod Entering
 pub mod Pushing
 pub mod Ready

@@ -1,6 +1,6 @@
 -- What always holds of an engine between two statements: it is the plain machine, in pages and files.
 use Rattle.std.specs.Prelude.{ℕ, ◌≡◌, ◌≢◌, ◌⊎◌, ◌+◌, ◌*◌, ◌-◌, ◌<◌, ◌≤◌, Bool, true, false, if◌then◌else◌, List, [], ◌∷◌, ◌++◌, length, map, slice_index, slice_index_or, Some, None, IsTrue}
-use Rattle.std.specs.List.{filter_map, range_with_len, list_any, list_all, flat_map}
+use Rattle.std.specs.List.{filter_map, range_with_len, list_any, flat_map}
 use Rattle.std.specs.Str.{bytes_eq}
 use Rattle.std.specs.FinMap as finite
 use Rattle.std.specs.FinSet as finset
@@ -16,8 +16,7 @@ use Rattle.plain_model.specs.State as plain
 use Rattle.plain_model.specs.State.{Plain, fresh_session, committed, copy, master}
 use Rattle.plain_model.specs.Legal.{Legal, end}
 use Rattle.plain_model.specs.Complete.{Mark, Answered, Gone, mark_of}
-use Rattle.plain_model.specs.Tables.{Table, Tables}
-use Rattle.plain_model.specs.Next.{is_int}
+use Rattle.plain_model.specs.Tables.{Tables}
 use Rattle.plain_model.specs.Sound.{are_distinct, AreScripts}
 use Rattle.snap_pages.specs.declared.state.SnapState.TheVariants.{Suspect}
 use Rattle.snap_pages.specs.Shown.{Shown, img, counts, catalog, IsOpen, set_of, state_of}
@@ -98,10 +97,6 @@ pub record AreSeated (e : Run) : Type 0 where
   pub gone : (i : ℕ) → i < length e.scripts → (seat_at e i).gone ≡ true → (seat_at e i).said ≡ length (script_at e i)
   pub marks : (i : ℕ) → i < length e.scripts → filter_map (mark_of (i + 1)) e.kept.events ≡ marks_of (seat_at e i)
 
--- each table has columns, and all are INTs
-abbrev pub AreInts : Tables → Type 0
-AreInts tables = (name : List ℕ) (t : Table) → finite.get tables name ≡ Some t → (list_all is_int t.cols ≡ true) × (0 < length t.cols)
-
 -- pages that are these tables, one behind the other
 pub record AreTables (n : ℕ) (images : PageId → List ℕ) (tables : Tables) : Type 0 where
   pub pages : (p : PageId) → IsPage (images p)
@@ -114,7 +109,6 @@ pub record AreCopies (e : Run) : Type 0 where
   pub file : counts e.shown ≡ slice_index (counts e.shown) 0 ∷ []
   pub few : slice_index (counts e.shown) 0 ≤ 32768
   pub source : AreTables (data_pages e.shown) (img e.shown) (committed (state e))
-  pub ints : AreInts (committed (state e))
   pub copies : (s : SnapNo) → IsKept e.shown s → AreTables (data_pages e.shown) (view e.shown s) (copy (state e) (name_of e.shown s))
 
 -- the names of all snapshots' sparse files

@@ -15,6 +15,7 @@ use Rattle.plain_model.specs.Tables.{Table, Tables}
 use Rattle.stmt_eval.specs.declared.effect.Verdict.{Verdict}
 use Rattle.stmt_eval.specs.Verdicts.{IsVerdict}
 use Rattle.table_pages.specs.Carried.{Holds}
+use Rattle.table_pages.specs.Rows.{HoldsFitting}
 use Rattle.engine_core.specs.declared.seeing.Glance.{Glance}
 use Rattle.engine_core.specs.declared.seeing.Glance.TheVariants.{Blank, Named, Other, Damaged, Lost}
 
@@ -50,4 +51,5 @@ pub record IsSelect (stmt : Stmt) (name : List ℕ) : Type 0 where
 pub record IsVerdictOn (image : List ℕ) (stmt : Stmt) (verdict : Verdict) : Type 0 where
   pub over : Table
   pub held : (name : List ℕ) (t : Table) → Holds image name t → over ≡ t
+  pub fits : HoldsFitting over
   pub is : IsVerdict stmt over verdict

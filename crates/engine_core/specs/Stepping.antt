@@ -4,7 +4,7 @@ use Rattle.std.specs.List.{list_any}
 use Rattle.std.specs.Str.{bytes_eq}
 use Rattle.page_base.specs.declared.numbers.SessNo.{SessNo}
 use Rattle.plain_model.specs.declared.stmt.Stmt.{Stmt}
-use Rattle.plain_model.specs.declared.stmt.Stmt.TheVariants.{UseDb, CreateTable, Insert, Update, CreateSnap}
+use Rattle.plain_model.specs.declared.stmt.Stmt.TheVariants.{UseDb, CreateTable, Insert, Update, Delete, CreateSnap}
 use Rattle.plain_model.specs.declared.event.Event.{Event}
 use Rattle.plain_model.specs.declared.event.Event.TheVariants.{Locked, Said}
 use Rattle.plain_model.specs.declared.reply.Reply.{Reply}
@@ -53,6 +53,7 @@ tables_after stmt (Msg message) tables = tables
 tables_after (CreateTable name cols) reply tables = apply (change_and_reply (CreateTable name cols) tables).0 tables
 tables_after (Insert i) reply tables = apply (change_and_reply (Insert i) tables).0 tables
 tables_after (Update u) reply tables = apply (change_and_reply (Update u) tables).0 tables
+tables_after (Delete d) reply tables = apply (change_and_reply (Delete d) tables).0 tables
 tables_after stmt reply tables = tables
 
 abbrev pub current_after : Stmt → Reply → List ℕ → List ℕ

@@ -1,21 +1,22 @@
 //! Which course a statement takes, by its kind and by its session's current database.
 
-ghost use Rattle.std.specs.Prelude.{◌≡◌, ◌<◌, ℕ, List, [], true, IfOk, MatchResult, if◌then◌else◌};
+ghost use Rattle.std.specs.Prelude.{◌≡◌, ◌<◌, ℕ, List, [], true, MatchResult, if◌then◌else◌};
 ghost use Rattle.page_base.specs.declared.numbers.PageId.{PageId};
 ghost use Rattle.page_fmt.specs.Content.{IsPage};
-ghost use Rattle.plain_model.specs.declared.stmt.Stmt.TheVariants.{UseDb, CreateTable, Insert, Update};
+ghost use Rattle.plain_model.specs.declared.stmt.Stmt.TheVariants.{UseDb, CreateTable};
 ghost use Rattle.plain_model.specs.Journal.{Opening};
 ghost use Rattle.plain_model.specs.Sound.{is_sound, are_columns};
-ghost use Rattle.plain_model.specs.Next.{is_built};
+ghost use Rattle.plain_model.specs.Statements.{table_named};
 ghost use Rattle.snap_pages.specs.Shown.{img, catalog};
 ghost use Rattle.snap_pages.specs.Slots.{slots_of};
 ghost use Rattle.table_pages.specs.Layout.{IsPacked};
 ghost use Rattle.table_pages.specs.Carried.{data_pages};
 ghost use Rattle.plain_model.specs.declared.reply.Reply.TheVariants.{Msg};
-ghost use Rattle.plain_model.specs.Meaning.{plain};
+ghost use Rattle.plain_model.specs.Messages.{plain};
 ghost use Rattle.engine_core.specs.declared.answer.Answer.TheVariants.{AtOnce};
 ghost use Rattle.engine_core.specs.Databases.{Means, IsPlaced, is_lost};
 ghost use Rattle.engine_core.specs.Ready.{Seen};
+ghost use Rattle.engine_core.specs.Changing.{is_change};
 ghost use Rattle.engine_core.specs.Deciding.{Setting, IsDecision, Decides, IsCourse};
 ghost use Rattle.engine_core.specs.Seeing.{IsSelect};
 ghost use Rattle.engine_core.specs.declared.database.Database.TheVariants.{Source};
@@ -23,13 +24,12 @@ ghost use Rattle.engine_core.specs.declared.database.Database.TheVariants.{Sourc
 use crate::answer::Answer;
 use crate::course::Course;
 use crate::database::{Database, find_database, is_home, is_lost, is_there};
-use crate::deciding::{create_in_source, insert_in_source, select_in_source, update_in_source};
+use crate::deciding::{change_in_source, create_in_source, select_in_source};
 use crate::decision::{Decision, only};
-use crate::literals::{are_ints, is_one_row, is_one_set, new_row};
 use crate::refusal::{refused, refused_at};
 use page_base::{Columns, Name, NoMemory};
 use page_dev::PageFile;
-use plain_model::{InsertStmt, Reply, Stmt, UpdateStmt};
+use plain_model::{Reply, Stmt};
 use snap_pages::SnapPages;
 use std::alloc::Global;
 
@@ -77,9 +77,6 @@ fn create<P: PageFile>(
     requires sound { are_columns cols.now ≡ true }
     ensures { Decides pages.now db (CreateTable name.now cols.now) result }
 {
-    if !are_ints(cols.as_slice()) {
-        return at_once(alloc, 60098);
-    }
     if !is_home(db) {
         return refused_outside(alloc, pages, db);
     }
@@ -89,65 +86,27 @@ fn create<P: PageFile>(
     or_no_memory(alloc, create_in_source(alloc, pages, name, cols))
 }
 
-// The decision on an INSERT in the source.
-fn insert_one<P: PageFile>(
-    alloc: Global,
-    pages: &SnapPages<P>,
-    stmt: &InsertStmt,
-) -> Result<Decision, NoMemory>
-    requires few { data_pages pages.now < 4294967295 }
-    requires pages { (p : PageId) → IsPage (img pages.now p) }
-    requires packed { IsPacked (data_pages pages.now) (slots_of (img pages.now)) }
-    requires built { is_built (Insert stmt.now) ≡ true }
-    ensures { IfOk result (λ d. (opening : Opening) (seen : Seen) → Setting opening opening.source pages.now seen →
-        IsDecision opening opening.source pages.now seen (Insert stmt.now) d) }
-{
-    let row = new_row(alloc, stmt)?;
-    insert_in_source(alloc, pages, stmt.table, row)
-}
-
-// INSERT
-fn insert<P: PageFile>(
+// INSERT, UPDATE or DELETE
+fn change<P: PageFile>(
     alloc: Global,
     pages: &SnapPages<P>,
     db: Database,
-    stmt: &InsertStmt,
+    stmt: &Stmt,
+    name: &Name,
 ) -> Decision
     requires few { data_pages pages.now < 4294967295 }
     requires pages { (p : PageId) → IsPage (img pages.now p) }
     requires packed { IsPacked (data_pages pages.now) (slots_of (img pages.now)) }
     requires placed { IsPlaced (catalog pages.now) db }
-    ensures { Decides pages.now db (Insert stmt.now) result }
+    requires change { is_change stmt.now ≡ true }
+    requires named { table_named stmt.now ≡ name.now }
+    requires sound { is_sound stmt.now ≡ true }
+    ensures { Decides pages.now db stmt.now result }
 {
-    if !is_one_row(stmt) {
-        return at_once(alloc, 60098);
-    }
     if !is_home(db) {
         return refused_outside(alloc, pages, db);
     }
-    or_no_memory(alloc, insert_one(alloc, pages, stmt))
-}
-
-// UPDATE
-fn update<P: PageFile>(
-    alloc: Global,
-    pages: &SnapPages<P>,
-    db: Database,
-    stmt: &UpdateStmt,
-) -> Decision
-    requires few { data_pages pages.now < 4294967295 }
-    requires pages { (p : PageId) → IsPage (img pages.now p) }
-    requires packed { IsPacked (data_pages pages.now) (slots_of (img pages.now)) }
-    requires placed { IsPlaced (catalog pages.now) db }
-    ensures { Decides pages.now db (Update stmt.now) result }
-{
-    if !is_one_set(stmt) {
-        return at_once(alloc, 60098);
-    }
-    if !is_home(db) {
-        return refused_outside(alloc, pages, db);
-    }
-    or_no_memory(alloc, update_in_source(alloc, pages, stmt))
+    or_no_memory(alloc, change_in_source(alloc, pages, stmt, name))
 }
 
 // USE
@@ -214,8 +173,9 @@ pub(crate) fn choose<P: PageFile>(
     match stmt {
         Stmt::UseDb(name) => Course::Answers(enter(alloc, pages, source, name)),
         Stmt::CreateTable(name, cols) => Course::Answers(create(alloc, pages, db, name, cols)),
-        Stmt::Insert(stmt) => Course::Answers(insert(alloc, pages, db, stmt)),
-        Stmt::Update(stmt) => Course::Answers(update(alloc, pages, db, stmt)),
+        Stmt::Insert(into) => Course::Answers(change(alloc, pages, db, stmt, &into.table)),
+        Stmt::Update(of) => Course::Answers(change(alloc, pages, db, stmt, &of.table)),
+        Stmt::Delete(from) => Course::Answers(change(alloc, pages, db, stmt, &from.table)),
         Stmt::Select(from) => select(alloc, pages, db, stmt, &from.table),
         Stmt::CreateSnap { .. } => Course::Cut,
         Stmt::Broken { at } => Course::Answers(only(

@@ -13,7 +13,6 @@ mod decision;
 mod editing;
 mod engine;
 mod ledger;
-mod literals;
 mod moved;
 mod pushing;
 mod refusal;
@@ -21,7 +20,6 @@ mod seat;
 mod seeing;
 #[cfg(test)]
 mod tests;
-mod updated;
 mod verdicts;
 
 pub use closing::CloseEnd;

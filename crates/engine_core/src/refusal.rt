@@ -2,7 +2,7 @@
 
 ghost use Rattle.std.specs.Prelude.{◌≡◌};
 ghost use Rattle.plain_model.specs.declared.reply.Reply.TheVariants.{Msg};
-ghost use Rattle.plain_model.specs.Meaning.{plain, at_place};
+ghost use Rattle.plain_model.specs.Messages.{plain, at_place};
 
 use plain_model::{Carried, Message, Reply};
 

@@ -3,7 +3,7 @@
 ghost use Rattle.std.specs.Prelude.{◌≡◌, ◌≢◌, ◌⊎◌, ◌<◌, ◌≤◌, true, OnOk, OnErr, IfOk, List, ℕ, Some};
 ghost use Rattle.page_fmt.specs.Content.{IsPage};
 ghost use Rattle.plain_model.specs.declared.reply.Reply.TheVariants.{Msg};
-ghost use Rattle.plain_model.specs.Meaning.{plain};
+ghost use Rattle.plain_model.specs.Messages.{plain};
 ghost use Rattle.plain_model.specs.Tables.{Table, Tables};
 ghost use Rattle.snap_pages.specs.declared.state.SnapState.TheVariants.{Suspect};
 ghost use Rattle.snap_pages.specs.Sparse.{is_copied};

@@ -1,7 +1,7 @@
 use Rattle.std.proofs.Common.{◌∙◌, List, [], ℕ, sym, ap, subst}
 use Rattle.plain_model.specs.declared.stmt.Stmt.TheVariants.{Broken}
 use Rattle.plain_model.specs.declared.reply.Reply.TheVariants.{Msg}
-use Rattle.plain_model.specs.Meaning.{at_place}
+use Rattle.plain_model.specs.Messages.{at_place}
 use Rattle.engine_core.specs.declared.answer.Answer.TheVariants.{AtOnce}
 use Rattle.snap_pages.specs.Shown.{catalog}
 use Rattle.engine_core.specs.Databases.{Means}
@@ -19,12 +19,17 @@ returns-in-CreateTable g c = λ opening seen setting named.
 pub returns-in-Insert : goal.returns-in-Insert
 returns-in-Insert g c = λ opening seen setting named.
     let means = subst (λ (s : List ℕ). Means s (catalog c.args.pages.now) c.args.current.now c.find_database-db.result) (sym named) c.find_database-db.ensures.means in
-    rw c.in-Insert.is (c.insert.ensures opening c.args.current.now seen setting means)
+    c.change.ensures opening c.args.current.now seen setting means
 
 pub returns-in-Update : goal.returns-in-Update
 returns-in-Update g c = λ opening seen setting named.
     let means = subst (λ (s : List ℕ). Means s (catalog c.args.pages.now) c.args.current.now c.find_database-db.result) (sym named) c.find_database-db.ensures.means in
-    rw c.in-Update.is (c.update.ensures opening c.args.current.now seen setting means)
+    c.change-in-Update.ensures opening c.args.current.now seen setting means
+
+pub returns-in-Delete : goal.returns-in-Delete
+returns-in-Delete g c = λ opening seen setting named.
+    let means = subst (λ (s : List ℕ). Means s (catalog c.args.pages.now) c.args.current.now c.find_database-db.result) (sym named) c.find_database-db.ensures.means in
+    c.change-in-Delete.ensures opening c.args.current.now seen setting means
 
 pub returns-in-Select : goal.returns-in-Select
 returns-in-Select g c = λ opening seen setting named.
@@ -41,5 +46,5 @@ pub returns-in_default : goal.returns-in_default
 returns-in_default g c = λ opening seen setting named.
     let means = subst (λ (s : List ℕ). Means s (catalog c.args.pages.now) c.args.current.now c.find_database-db.result) (sym named) c.find_database-db.ensures.means in
     let d = c.in_default in
-    let o = other c.args.stmt.now d.not-UseDb d.not-CreateTable d.not-Insert d.not-Select d.not-Update d.not-CreateSnap d.not-Broken in
+    let o = other c.args.stmt.now d.not-UseDb d.not-CreateTable d.not-Insert d.not-Select d.not-Update d.not-Delete d.not-CreateSnap d.not-Broken in
     same_decides c.args.pages.now c.find_database-db.result c.args.stmt.now _ _ c.at_once.ensures (unbuilt c.args.pages.now c.find_database-db.result c.args.stmt.now o.0 o.1) opening c.args.current.now seen setting means

@@ -1,11 +1,8 @@
-use Rattle.std.proofs.Common.{List, ℕ, sym, ap, refl, subst, ◌∙◌}
-use Rattle.plain_model.specs.declared.stmt.Stmt.{Stmt}
-use Rattle.plain_model.specs.declared.stmt.Stmt.TheVariants.{Select}
+use Rattle.std.proofs.Common.{sym, ap, subst, ◌∙◌}
 use Rattle.plain_model.specs.Free.{is_of_tables}
 use Rattle.plain_model.specs.Next.{is_built}
 use Rattle.snap_pages.specs.Shown.{catalog}
 use Rattle.engine_core.specs.declared.database.Database.{Database}
-use Rattle.engine_core.specs.declared.decision.Decision.{Decision}
 use Rattle.engine_core.specs.Databases.{Means, is_home, is_shot, is_lost}
 use Rattle.engine_core.specs.Deciding.{Decides}
 use Rattle.engine_core.proofs.Choices.{see_lost, see_nowhere, or_memory, same_decides, simple_select}

@@ -1,11 +1,10 @@
 use Rattle.std.proofs.Common.{◌≡◌, ◌∙◌, List, ℕ, [], ap, sym, subst}
-use Rattle.std.specs.Prelude.{Option, Some, None}
+use Rattle.std.specs.Prelude.{Some, None}
 use Rattle.std.specs.FinMap as finite
 use Rattle.page_base.specs.declared.numbers.Mode.TheVariants.{S}
-use Rattle.plain_model.specs.declared.stmt.Stmt.{Stmt}
 use Rattle.plain_model.specs.declared.reply.Reply.{Reply}
 use Rattle.plain_model.specs.declared.reply.Reply.TheVariants.{Msg}
-use Rattle.plain_model.specs.Meaning.{plain}
+use Rattle.plain_model.specs.Messages.{plain}
 use Rattle.plain_model.specs.Statements.{shape_over, data_over}
 use Rattle.plain_model.specs.Tables.{Table, Change}
 use Rattle.snap_pages.specs.Shown.{img}

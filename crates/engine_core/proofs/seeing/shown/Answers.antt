@@ -1,5 +1,4 @@
 use Rattle.std.proofs.Common.{sym, subst}
-use Rattle.std.specs.Prelude.{Some}
 use Rattle.engine_core.specs.Causes.{IsNoShortage, IsNoFailure}
 use Rattle.engine_core.proofs.SelectLemmas.{harmless_reply}
 use Rattle.engine_core.proofs.seeing.shown.Goals as goal

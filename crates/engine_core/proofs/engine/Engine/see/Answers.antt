@@ -14,7 +14,7 @@ use Rattle.engine_core.proofs.SayingLemmas.{roomy, says_seen}
 use Rattle.engine_core.specs.Causes.{HasPlace}
 use Rattle.plain_model.specs.declared.stmt.Stmt.{Stmt}
 use Rattle.plain_model.specs.declared.reply.Reply.TheVariants.{Msg}
-use Rattle.plain_model.specs.Meaning.{plain}
+use Rattle.plain_model.specs.Messages.{plain}
 use Rattle.plain_model.specs.Tables.{Tables}
 use Rattle.snap_pages.specs.Views.{view, IsKept}
 use Rattle.table_pages.specs.Carried.{data_pages}
