@@ -1,0 +1,7 @@
+:session 1
+USE shop
+CREATE TABLE t (id INT PRIMARY KEY, v INT)
+INSERT t VALUES (1, 10), (2, 20)
+CREATE DATABASE s1 ON (NAME = shop_data, FILENAME = 's1.ss') AS SNAPSHOT OF shop
+USE s1
+SELECT v FROM t

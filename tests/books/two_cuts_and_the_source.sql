@@ -1,0 +1,14 @@
+:session 1
+USE shop
+CREATE TABLE t (id INT PRIMARY KEY, v INT)
+INSERT t VALUES (1, 10), (2, 20)
+CREATE DATABASE s1 ON (NAME = shop_data, FILENAME = 's1.ss') AS SNAPSHOT OF shop
+UPDATE t SET v = 11 WHERE id = 1
+CREATE DATABASE s2 ON (NAME = shop_data, FILENAME = 's2.ss') AS SNAPSHOT OF shop
+UPDATE t SET v = 12 WHERE id = 1
+USE s1
+SELECT v FROM t WHERE id = 1
+USE s2
+SELECT v FROM t WHERE id = 1
+USE shop
+SELECT v FROM t WHERE id = 1
