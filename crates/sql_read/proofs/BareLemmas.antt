@@ -1,7 +1,6 @@
 -- A sentence says one statement, wherever the parts of its expressions lie in memory.
 use Rattle.std.specs.Prelude.{map, Option, Some, None, option_map}
-use Rattle.std.proofs.Common.{◌≡◌, ℕ, Bool, true, false, List, [], ◌∷◌, length, ap, sym, ◌∙◌, refl}
-use Rattle.page_base.specs.declared.column.Column.{Column}
+use Rattle.std.proofs.Common.{◌≡◌, ℕ, Bool, List, [], ◌∷◌, length, ap, sym, ◌∙◌, refl}
 use Rattle.plain_model.specs.declared.expr.Expr.{Expr}
 use Rattle.plain_model.specs.declared.stmt.Items.{Items}
 use Rattle.plain_model.specs.declared.stmt.Items.TheVariants as items
@@ -15,19 +14,18 @@ use Rattle.plain_model.specs.declared.stmt.Sum.{Sum}
 use Rattle.plain_model.specs.declared.stmt.Sum.TheVariants.{CountAll, SumOf}
 use Rattle.plain_model.specs.Tree.{Tree, tree_of}
 use Rattle.table_def.specs.declared.parts.ColumnOption.{ColumnOption}
-use Rattle.table_def.specs.declared.parts.ColumnOption.TheVariants as option
 use Rattle.table_def.specs.declared.parts.ColumnPart.{ColumnPart}
 use Rattle.table_def.specs.declared.parts.TablePart.{TablePart}
 use Rattle.table_def.specs.declared.parts.TablePart.TheVariants.{Column as ColumnOf, Key as KeyOf}
 use Rattle.table_def.specs.declared.parts.WrittenType.{WrittenType}
-use Rattle.table_def.specs.declared.parts.WrittenType.TheVariants.{Int, Bigint, Varchar}
+use Rattle.table_def.specs.declared.parts.WrittenType.TheVariants.{Varchar}
 use Rattle.table_def.specs.Defined.{columns_of}
-use Rattle.sql_form.specs.Form.{Form, Value, Left, Right}
+use Rattle.sql_form.specs.Form.{Value, Left, Right}
 use Rattle.sql_stmt.specs.Defining.{SaysVarchar, SaysType, SaysColumnPart, SaysKeyPart, SaysPart}
 use Rattle.sql_stmt.specs.Defining as defining
-use Rattle.sql_stmt.specs.Saying.{SaysName, SaysExpr, SayEach, SaysOption, SaysList, SaysFilter, SaysColumns, SaysRow, SaysSum, SaysSums, SaysShown, SaysDown, SaysOrderItem, SaysOrder, SaysSelectSums, SaysSelectRows, SaysSetting, SaysFile, SaysSource, SaysSnapshot}
+use Rattle.sql_stmt.specs.Saying.{SaysName, SaysExpr, SayEach, SaysOption, SaysList, SaysFilter, SaysColumns, SaysRow, SaysSum, SaysSums, SaysShown, SaysDown, SaysOrderItem, SaysOrder, SaysSelectSums, SaysSelectRows, SaysSetting, SaysFile}
 use Rattle.sql_stmt.specs.Stmts.{SaysUse, SaysCreateTable, SaysCreateSnap, SaysCreate, SaysDropTable, SaysDropDatabase, SaysDrop, SaysStructure, SaysInsertion, SaysUpdating, SaysDeletion, SaysChange, SaysBegin, SaysCommit, SaysRollback, SaysTimeout, SaysRestore, SaysTurn, SaysSelection, SaysStatement, SaysEnded}
-use Rattle.sql_stmt.specs.Statements.{use_database, create_snap, create_table, create, drop_table, drop_database, drop, structure, insert, update, delete, change, begin_transaction, commit, rollback, set_timeout, restore, turn, select, select_sums, select_rows, statement, ended, where_truth, row, column_list, aggregate, shown, direction, order_item, order_by, setting, snap_file, varchar, column_type, column_option, column_part, key_part, table_part}
+use Rattle.sql_stmt.specs.Statements.{use_database, create_snap, create_table, create, drop_table, drop_database, drop, structure, insert, update, delete, change, begin_transaction, commit, rollback, set_timeout, restore, turn, select, select_sums, select_rows, statement, ended, where_truth, row, column_list, aggregate, shown, direction, order_item, order_by, setting, snap_file, varchar, column_type, column_option, column_part, table_part}
 use Rattle.sql_read.specs.Bare.{Bare, BareItems, bare, bare_sum, bare_items, bare_set}
 use Rattle.sql_read.specs.Grammar.{IsBatch}
 use Rattle.sql_read.proofs.BatchLemmas.{same_value}

@@ -1,29 +1,27 @@
 -- Batches that are read whole, and those that are refused.
-use Rattle.std.specs.Prelude.{Result, Ok, Err, IfOk, IfErr}
-use Rattle.std.proofs.Common.{◌≡◌, ℕ, zero, suc, ◌+◌, ◌-◌, Bool, true, false, List, [], ◌∷◌, ◌++◌, length, ap, sym, ◌∙◌, refl, arith, subst}
+use Rattle.std.proofs.Common.{◌≡◌, ℕ, true, false, List, ◌∷◌, ◌++◌, ap, sym, ◌∙◌, refl, subst}
 use Rattle.plain_model.specs.declared.stmt.Stmt.{Stmt}
 use Rattle.plain_model.specs.Sound.{are_sound}
 use Rattle.sql_lex.specs.declared.refusal.ParseRefusal.{ParseRefusal}
 use Rattle.sql_lex.specs.declared.refusal.ParseRefusal.TheVariants.{Syntax, Memory}
 use Rattle.sql_lex.specs.declared.token.Token.{Token}
 use Rattle.sql_lex.specs.Ahead.{first_of, is_over}
-use Rattle.sql_lex.specs.Tokens.{Lexes, is_end}
+use Rattle.sql_lex.specs.Tokens.{Lexes}
 use Rattle.sql_lex.proofs.Cutting.{one_cutting}
 use Rattle.sql_expr.specs.Got.{Got, Done, Refused}
 use Rattle.sql_expr.specs.Laws.{are_printed}
 use Rattle.sql_expr.specs.Laws.{is_printed}
 use Rattle.sql_expr.proofs.Batches.{batch_printed}
 use Rattle.std.proofs.lemmas.List.Folds.{list_all-append}
-use Rattle.sql_form.specs.Form.{Form, Value}
-use Rattle.sql_form.specs.Grammar.{IsPlain, IsForm}
-use Rattle.sql_form.specs.Laws.{IsAll, IsRefused}
-use Rattle.sql_form.specs.Read.{read, read_whole, closed, chosen}
-use Rattle.sql_form.specs.Rules.{strict, Breach}
+use Rattle.sql_form.specs.Form.{Value}
+use Rattle.sql_form.specs.Laws.{IsAll}
+use Rattle.sql_form.specs.Read.{read, read_whole, closed}
+use Rattle.sql_form.specs.Rules.{strict}
 use Rattle.sql_form.proofs.Batches.{batch_ends}
 use Rattle.sql_form.proofs.WholeLemmas.{whole_is, whole_read, whole_refused}
-use Rattle.sql_stmt.specs.Answers.{Fails, IsRead, Gives}
+use Rattle.sql_stmt.specs.Answers.{Fails, IsRead}
 use Rattle.sql_stmt.specs.Saying.{SayEach}
-use Rattle.sql_stmt.specs.Statements.{batch, ended}
+use Rattle.sql_stmt.specs.Statements.{batch}
 use Rattle.sql_stmt.specs.Stmts.{SaysEnded}
 use Rattle.sql_stmt.proofs.Batches.{batch_plain}
 use Rattle.sql_stmt.proofs.MeantLemmas.{batch_sound}
@@ -32,14 +30,14 @@ use Rattle.sql_read.specs.Grammar.{IsBatch}
 use Rattle.sql_read.specs.Place.{IsRefusedAt, IsRefusal}
 
 -- what was read up to the end is read whole
-closed_done : {A : Type 0} (g : Got A) (x : A) (left : List Token) → g ≡ Done x left → is_over left ≡ true → closed g ≡ Done x left
+pub closed_done : {A : Type 0} (g : Got A) (x : A) (left : List Token) → g ≡ Done x left → is_over left ≡ true → closed g ≡ Done x left
 closed_done g x left h over = rw (h, over) refl
 
 -- what was read up to another token is refused there
-closed_stops : {A : Type 0} (g : Got A) (x : A) (left : List Token) → g ≡ Done x left → is_over left ≡ false → closed g ≡ Refused (first_of left).at
+pub closed_stops : {A : Type 0} (g : Got A) (x : A) (left : List Token) → g ≡ Done x left → is_over left ≡ false → closed g ≡ Refused (first_of left).at
 closed_stops g x left h over = rw (h, over) refl
 
-closed_refused : {A : Type 0} (g : Got A) (at : ℕ) → g ≡ Refused at → closed g ≡ Refused at
+pub closed_refused : {A : Type 0} (g : Got A) (at : ℕ) → g ≡ Refused at → closed g ≡ Refused at
 closed_refused g at h = rw h refl
 
 -- all tokens of the batch are statements
@@ -56,17 +54,17 @@ same_cut : (bytes : List ℕ) (ts us : List Token) → Lexes 0 bytes ts → Lexe
 same_cut bytes ts us h k = let cut = one_cutting bytes in cut.2 ts h ∙ sym (cut.2 us k)
 
 -- the tokens of a batch of the grammar are read whole
-record ReadWhole (ts : List Token) (x : Value batch) : Type 0 where
+pub record ReadWhole (ts : List Token) (x : Value batch) : Type 0 where
   pub rest : List Token
   pub is : read_whole batch ts ≡ Done x rest
 
-all_read : (ts : List Token) (x : Value batch) → IsAll batch ts x → ReadWhole ts x
+pub all_read : (ts : List Token) (x : Value batch) → IsAll batch ts x → ReadWhole ts x
 all_read ts x a = record { rest = a.last ∷ a.others; is = ap (read_whole batch) a.split ∙ whole_read batch batch_plain x a.front a.others a.last a.is a.ends }
 
 batch_read : (bytes : List ℕ) (ts : List Token) (stmts : List Stmt) → Lexes 0 bytes ts → (b : IsBatch bytes stmts) → ReadWhole ts b.value
 batch_read bytes ts stmts lexes b = all_read ts b.value (rw (same_cut bytes b.tokens ts b.lexes lexes) at b.is)
 
-done_stopped : {A : Type 0} (g : Got A) (x : A) (us : List Token) (at : ℕ) → g ≡ Done x us → g ≡ Refused at → ⊥
+pub done_stopped : {A : Type 0} (g : Got A) (x : A) (us : List Token) (at : ℕ) → g ≡ Done x us → g ≡ Refused at → ⊥
 done_stopped g x us at h k = cc
 
 -- a batch whose tokens are refused is refused there

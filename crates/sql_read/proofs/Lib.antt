@@ -1,3 +1,4 @@
 pub mod BatchLemmas
 pub mod BareLemmas
 pub mod PlaceLemmas
+pub mod LackLemmas

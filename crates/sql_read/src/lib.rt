@@ -8,6 +8,9 @@ mod stmt_place;
 mod tests;
 
 pub use batch::parse;
-pub use law::{batches_have_one_reading, refusals_have_one_place, statements_have_one_place};
+pub use law::{
+    batches_have_one_reading, missing_statements_have_one_place, refusals_have_one_place,
+    statements_have_one_place,
+};
 pub use sql_lex::ParseRefusal;
 pub use stmt_place::statement_place;

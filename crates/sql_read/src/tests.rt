@@ -451,3 +451,33 @@ fn statements_have_places(rt: HostRuntime) {
     }
     assert_eq!(rt; statement_place(rt.alloc(), b"\t) USE", 0), Ok(1));
 }
+
+fn place_of(alloc: Global, batch: &[u8], number: usize) -> Result<u32, ParseRefusal> {
+    if batch.len() > 20000000 {
+        return Err(ParseRefusal::Memory);
+    }
+    statement_place(alloc, batch, number)
+}
+
+// A batch, the number of a statement that it lacks, and where its statements stop: behind the last one, where one breaks off, or
+// at a token that begins none.
+const LACKING: [(&str, usize, u32); 7] = [
+    ("", 1, 0),
+    ("USE a USE b", 2, 11),
+    ("USE a USE b -- c", 7, 16),
+    ("USE a USE 1 USE b", 2, 10),
+    ("USE a USE", 2, 9),
+    ("USE a ) USE b", 1, 6),
+    ("\t) USE", 1, 1),
+];
+
+#[test]
+fn missing_statements_have_a_place(rt: HostRuntime) {
+    for (batch, number, at) in LACKING {
+        assert_eq!(rt;
+            place_of(rt.alloc(), batch.as_bytes(), number),
+            Err(ParseRefusal::Syntax { at }),
+            "of {number} in {batch}"
+        );
+    }
+}
