@@ -1,11 +1,17 @@
 //! A table in a heap of pages: what is to be read of it, its rows, and the edits that change them.
 #![tactic(auto)]
 
+mod draft;
+mod growing;
 mod law;
 mod layout;
+mod leaf;
+mod places;
+mod planning;
 mod reading;
 #[cfg(test)]
 mod tests;
 
 pub use law::placed_rows_are_the_rows;
+pub use planning::plan;
 pub use reading::{rows, wants};
