@@ -1,3 +1,4 @@
 pub mod HeapLemmas
 pub mod LeafLemmas
 pub mod PlaceLemmas
+pub mod SlotsLemmas

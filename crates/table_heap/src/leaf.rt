@@ -1,6 +1,6 @@
 //! The slots of a leaf in memory, with the bytes that they take on a page.
 
-ghost use Rattle.std.specs.Prelude.{ℕ, List, [], true, false, ◌≡◌, ◌≢◌, ◌<◌, ◌≤◌, ◌-◌, ◌+◌, ◌*◌, IfOk, OnOk, IfSome, IfNone, length, slice_index_or};
+ghost use Rattle.std.specs.Prelude.{ℕ, List, [], true, false, ◌≡◌, ◌≢◌, ◌<◌, ◌≤◌, ◌-◌, ◌+◌, ◌*◌, IfOk, OnOk, IfSome, IfNone, length, take, slice_index_or};
 ghost use Rattle.page_fmt.specs.Edits.{set_slot, cleared, trimmed};
 ghost use Rattle.page_fmt.specs.Seen.{Looked};
 ghost use Rattle.page_fmt.specs.Spelling.{used, FitsPage};
@@ -35,7 +35,8 @@ impl Model for LeafSlots {
 // The slots of a page that was read.
 pub(crate) fn copied(alloc: Global, seen: &Seen, i: usize) -> Result<Vec<Bytes>, NoMemory>
     requires { i < length seen.now }
-    ensures { IfOk result (λ slots. (d : Looked) → slots.items ≡ (slice_index_or seen.now i d).slots) }
+    ensures are { IfOk result (λ slots. (d : Looked) → slots.items ≡ (slice_index_or seen.now i d).slots) }
+    ensures fits { IfOk result (λ slots. FitsPage slots.items) }
 {
     let mut slots = Vec::new(alloc);
     for j in 0..seen.slots(i) {
@@ -56,15 +57,18 @@ fn used(slots: &[Bytes]) -> usize
     used
 }
 
-// Takes the empty slots at the end away.
-fn trim(slots: &mut Vec<Bytes>)
-    ensures { slots.new.items ≡ trimmed slots.old.items }
+// How many slots there are without the empty ones at the end.
+fn filled(slots: &[Bytes]) -> usize
+    ensures { take result slots.now ≡ trimmed slots.now }
 {
-    while let Some(bytes) = slots.pop() {
-        if !bytes.is_empty() {
-            return;
+    let mut filled = 0;
+    for (i, bytes) in slots.iter().enumerate() {
+        if bytes.is_empty() {
+            continue;
         }
+        filled = i + 1;
     }
+    filled
 }
 
 impl LeafSlots {
@@ -157,7 +161,8 @@ impl LeafSlots {
         ensures { self.new ≡ cleared self.old slot }
     {
         self.slots[slot] = Bytes::new(alloc);
-        trim(&mut self.slots);
+        let filled = filled(self.slots.as_slice());
+        self.slots.truncate(filled);
         self.taken = used(self.slots.as_slice());
     }
 }
