@@ -1,3 +1,4 @@
+pub mod GrowLemmas
 pub mod HeapLemmas
 pub mod LeafLemmas
 pub mod ShapeLemmas

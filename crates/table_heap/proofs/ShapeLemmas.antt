@@ -253,10 +253,10 @@ times_visits at p from (r ∷ rs) leaves c =
     let whole : times p (take 1000 leaves) + times p (drop 1000 leaves) ≡ times p leaves = sym (times_append p (take 1000 leaves) (drop 1000 leaves)) ∙ ap (times p) (take-append-drop 1000 leaves) in
     omega (arith, times_visits at p r rs (drop 1000 leaves) c.1)
 
-one_here : (q p : PageId) (n : ℕ) → q ≡ p → cond {A = ℕ} (is_page q p) 1 0 + n ≡ 1 + n
+pub one_here : (q p : PageId) (n : ℕ) → q ≡ p → cond {A = ℕ} (is_page q p) 1 0 + n ≡ 1 + n
 one_here q p n e = ap (λ b. cond {A = ℕ} b 1 0 + n) (ap (λ x. is_page x p) e ∙ is_page-same p)
 
-none_here : (q p : PageId) (n : ℕ) → q ≢ p → cond {A = ℕ} (is_page q p) 1 0 + n ≡ n
+pub none_here : (q p : PageId) (n : ℕ) → q ≢ p → cond {A = ℕ} (is_page q p) 1 0 + n ≡ n
 none_here q p n ne = ap (λ b. cond {A = ℕ} b 1 0 + n) (is_page-other q p ne) ∙ zero_more n
   where
     zero_more : (n : ℕ) → 0 + n ≡ n
