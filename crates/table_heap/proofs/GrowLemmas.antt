@@ -18,7 +18,7 @@ pub count_append : (i : ℕ) (xs ys : List ℕ) → count_of i (xs ++ ys) ≡ co
 count_append i [] ys = omega arith
 count_append i (x ∷ xs) ys = omega (arith, count_append i xs ys)
 
-count_here : (j i n : ℕ) → j ≡ i → cond {A = ℕ} (j == i) 1 0 + n ≡ 1 + n
+pub count_here : (j i n : ℕ) → j ≡ i → cond {A = ℕ} (j == i) 1 0 + n ≡ 1 + n
 count_here j i n e = ap (λ b. cond {A = ℕ} b 1 0 + n) (eq-eqb j i e)
 
 count_other : (j i n : ℕ) → j ≢ i → cond {A = ℕ} (j == i) 1 0 + n ≡ n

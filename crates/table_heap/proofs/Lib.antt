@@ -1,3 +1,4 @@
+pub mod GrowChain
 pub mod GrowLemmas
 pub mod HeapLemmas
 pub mod LeafLemmas
