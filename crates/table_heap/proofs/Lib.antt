@@ -1,4 +1,9 @@
+pub mod GrowChain
+pub mod GrowLemmas
+pub mod GrowRows
 pub mod HeapLemmas
 pub mod LeafLemmas
 pub mod PlaceLemmas
 pub mod SlotsLemmas
+pub mod ShapeLemmas
+pub mod DraftLemmas

@@ -1,7 +1,6 @@
 -- Where rows stand in leaves after one is cut, takes another's slot, or is added.
 use Rattle.std.proofs.Common.{refl, ◌≡◌, ◌≢◌, ℕ, zero, suc, ◌+◌, ◌<◌, ◌≤◌, Bool, true, false, cond, ◌||◌, List, [], ◌∷◌, ◌++◌, length, get_or, set, map, ap, sym, ◌∙◌, subst, arith, inl, inr, ◌⊎◌, nat_lt}
 use Rattle.std.specs.Prelude.{Option, Some, None, nat_le}
-use Rattle.std.specs.FinMap as finite
 use Rattle.std.proofs.lemmas.Bool.{cases_eq, le-leb, lt-leb}
 use Rattle.page_base.specs.declared.column.Column.{Column}
 use Rattle.page_base.specs.declared.value.Value.{Value}
@@ -11,10 +10,8 @@ use Rattle.page_fmt.specs.Spelling.{used}
 use Rattle.plain_model.specs.Tables.{key_of}
 use Rattle.row_fmt.specs.Rows.{row_bytes}
 use Rattle.table_walk.proofs.RowsLemmas.{Key, same_key, ties, itself, no_Some, same_Some}
-use Rattle.table_heap.specs.declared.places.Place.{Place}
 use Rattle.table_heap.specs.Leaves.{Leaf, cell, slots_of, fits, has, holds, before, trimmed, changed, cut, has_room, swap, added, add}
-use Rattle.table_heap.specs.Planning.{MayPut}
-use Rattle.table_heap.specs.Places.{IsFirstEmpty, IsKeyAt, row_at}
+use Rattle.table_heap.specs.Places.{IsFirstEmpty, row_at}
 
 abbrev pub Row : Type 0
 Row = List Value
@@ -22,9 +19,6 @@ Row = List Value
 -- what stands at each place
 abbrev pub Cells : Type 0
 Cells = ℕ → ℕ → Option Row
-
-abbrev pub cells_in : List Leaf → Cells
-cells_in leaves i j = get_or (get_or leaves i []) j None
 
 -- one place has something else, and the others what they had
 pub record Updates (old new : Cells) (i j : ℕ) (to : Option Row) : Type 0 where
@@ -185,12 +179,12 @@ added_is row (Some r ∷ cs) (suc j) full first =
 -- the row of a key stands at a place, and at no other
 pub record OnlyAt (cols : List Column) (key : Row) (leaves : List Leaf) (i j : ℕ) : Type 0 where
   pub row : Row
-  pub at : cells_in leaves i j ≡ Some row
+  pub at : row_at leaves i j ≡ Some row
   pub key_is : key_of cols row ≡ key
-  pub only : (k l : ℕ) (other : Row) → cells_in leaves k l ≡ Some other → key_of cols other ≡ key → (k ≡ i) × (l ≡ j)
+  pub only : (k l : ℕ) (other : Row) → row_at leaves k l ≡ Some other → key_of cols other ≡ key → (k ≡ i) × (l ≡ j)
 
 abbrev pub NoneAt : List Column → Row → List Leaf → Type 0
-NoneAt cols key leaves = (k l : ℕ) (other : Row) → cells_in leaves k l ≡ Some other → key_of cols other ≡ key → ⊥
+NoneAt cols key leaves = (k l : ℕ) (other : Row) → row_at leaves k l ≡ Some other → key_of cols other ≡ key → ⊥
 
 pub only_in : (cols : List Column) (key : Row) (leaves : List Leaf) (i j : ℕ) → OnlyAt cols key leaves i j → OnlyIn cols key (get_or leaves i []) j
 only_in cols key leaves i j o = record { row = o.row; at = o.at; key_is = o.key_is; only = λ k other e f. (o.only i k other e f).1 }
@@ -257,7 +251,7 @@ add_last row (leaf ∷ leaves) first = λ k. cond (first 0 (omega arith) k) (add
 
 -- WHAT STANDS WHERE
 
-pub leaf_within : (leaves : List Leaf) (i j : ℕ) (row : Row) → cells_in leaves i j ≡ Some row → i < length leaves
+pub leaf_within : (leaves : List Leaf) (i j : ℕ) (row : Row) → row_at leaves i j ≡ Some row → i < length leaves
 leaf_within [] i j row e = no_Some row (sym e)
 leaf_within (leaf ∷ leaves) zero j row e = omega arith
 leaf_within (leaf ∷ leaves) (suc i) j row e = let h = leaf_within leaves i j row e in omega arith
@@ -276,35 +270,35 @@ leaf_other (l ∷ ls) (suc i) (suc k) leaf ne = leaf_other ls i k leaf (λ e. ne
 
 -- one leaf is changed at one slot
 pub set_leaf : (leaves : List Leaf) (i j : ℕ) (leaf : Leaf) (to : Option Row) → i < length leaves → get_or leaf j None ≡ to → ((k : ℕ) → k ≢ j → get_or leaf k None ≡ get_or (get_or leaves i []) k None)
-    → Updates (cells_in leaves) (cells_in (set leaves i leaf)) i j to
+    → Updates (row_at leaves) (row_at (set leaves i leaf)) i j to
 set_leaf leaves i j leaf to h here others = record {
   here = ap (λ (l : Leaf). get_or l j None) (leaf_same leaves i leaf h) ∙ here;
   others = λ k l ne. by k l ne (cases_eq k i);
 }
   where
-    by : (k l : ℕ) → (k ≢ i) ⊎ (l ≢ j) → (k ≡ i) ⊎ (k ≡ i → ⊥) → cells_in (set leaves i leaf) k l ≡ cells_in leaves k l
+    by : (k l : ℕ) → (k ≢ i) ⊎ (l ≢ j) → (k ≡ i) ⊎ (k ≡ i → ⊥) → row_at (set leaves i leaf) k l ≡ row_at leaves k l
     by k l ne (inr f) = ap (λ (x : Leaf). get_or x l None) (leaf_other leaves i k leaf f)
     by k l (inl ne) (inl f) = absurd (ne f)
     by k l (inr ne) (inl f) =
         ap (λ (n : ℕ). get_or (get_or (set leaves i leaf) n []) l None) f ∙ ap (λ (x : Leaf). get_or x l None) (leaf_same leaves i leaf h) ∙ others l ne ∙ ap (λ (n : ℕ). get_or (get_or leaves n []) l None) (sym f)
 
-pub cut_updates : (cols : List Column) (key : Row) (leaves : List Leaf) (i j : ℕ) → OnlyAt cols key leaves i j → Updates (cells_in leaves) (cells_in (cut cols key leaves)) i j None
+pub cut_updates : (cols : List Column) (key : Row) (leaves : List Leaf) (i j : ℕ) → OnlyAt cols key leaves i j → Updates (row_at leaves) (row_at (cut cols key leaves)) i j None
 cut_updates cols key leaves i j o =
     let leaf : Leaf = get_or leaves i [] in
     let new : Leaf = trimmed (set leaf j None) in
     let h : i < length leaves = leaf_within leaves i j o.row o.at in
-    subst (λ (ls : List Leaf). Updates (cells_in leaves) (cells_in ls) i j None) (sym (cut_is cols key leaves i j o))
+    subst (λ (ls : List Leaf). Updates (row_at leaves) (row_at ls) i j None) (sym (cut_is cols key leaves i j o))
     (set_leaf leaves i j new None h (trimmed_at (set leaf j None) j ∙ set_same leaf j None (within leaf j o.row o.at)) (λ k ne. trimmed_at (set leaf j None) k ∙ set_other leaf j k None ne))
 
-pub swap_updates : (cols : List Column) (key row : Row) (leaves : List Leaf) (i j : ℕ) → OnlyAt cols key leaves i j → Updates (cells_in leaves) (cells_in (swap cols key row leaves)) i j (Some row)
+pub swap_updates : (cols : List Column) (key row : Row) (leaves : List Leaf) (i j : ℕ) → OnlyAt cols key leaves i j → Updates (row_at leaves) (row_at (swap cols key row leaves)) i j (Some row)
 swap_updates cols key row leaves i j o =
     let leaf : Leaf = get_or leaves i [] in
     let h : i < length leaves = leaf_within leaves i j o.row o.at in
-    subst (λ (ls : List Leaf). Updates (cells_in leaves) (cells_in ls) i j (Some row)) (sym (swap_is cols key row leaves i j o))
+    subst (λ (ls : List Leaf). Updates (row_at leaves) (row_at ls) i j (Some row)) (sym (swap_is cols key row leaves i j o))
     (set_leaf leaves i j (set leaf j (Some row)) (Some row) h (set_same leaf j (Some row) (within leaf j o.row o.at)) (λ k ne. set_other leaf j k (Some row) ne))
 
 -- an empty leaf more at the end changes no row
-pub more_at : (leaves : List Leaf) (i j : ℕ) → cells_in (leaves ++ [] ∷ []) i j ≡ cells_in leaves i j
+pub more_at : (leaves : List Leaf) (i j : ℕ) → row_at (leaves ++ [] ∷ []) i j ≡ row_at leaves i j
 more_at [] zero j = refl
 more_at [] (suc i) j = refl
 more_at (leaf ∷ leaves) zero j = refl

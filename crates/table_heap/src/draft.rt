@@ -1,11 +1,17 @@
 //! A draft of the leaves: keys are cut from them and rows put into them, before any page changes.
 
-ghost use Rattle.std.specs.Prelude.{ℕ, List, [], ◌≡◌, ◌≢◌, ◌<◌, ◌≤◌, OnOk, IfOk, IfErr, All, length, map, slice_index_or};
+ghost use Rattle.std.specs.Prelude.{ℕ, List, [], true, false, Some, None, ◌≡◌, ◌≢◌, ◌<◌, ◌≤◌, OnOk, IfOk, IfErr, IfSome, IfNone, All, length, map, slice_index_or};
+ghost use Rattle.std.specs.FinMap as finite;
 ghost use Rattle.page_base.specs.declared.column.Column.{Column};
+ghost use Rattle.page_base.specs.declared.value.Value.{Value};
+ghost use Rattle.page_fmt.specs.Edits.{set_slot};
 ghost use Rattle.page_fmt.specs.Seen.{Looked};
-ghost use Rattle.table_heap.specs.Leaves.{Leaf, cut, cut_keys, put, put_rows};
+ghost use Rattle.page_fmt.specs.Spelling.{used};
+ghost use Rattle.plain_model.specs.Tables.{key_of};
+ghost use Rattle.row_fmt.specs.Rows.{row_bytes};
+ghost use Rattle.table_heap.specs.Leaves.{Leaf, cut, cut_keys, put, put_rows, add, has_room};
 ghost use Rattle.table_heap.specs.Planning.{MayPut};
-ghost use Rattle.table_heap.specs.Places.{IsDraft};
+ghost use Rattle.table_heap.specs.Places.{IsDraft, IsPlaceFor, HasRoom};
 
 use crate::leaf::LeafSlots;
 use crate::places::{KeyPlaces, Place};
@@ -83,44 +89,73 @@ impl Draft {
 
     // Cuts a key.
     fn cut(&mut self, alloc: Global, key: &Row)
+        ensures draft { (cols : List Column) (leaves : List Leaf) → IsDraft cols leaves self.old.leaves.items self.old.places → IsDraft cols (cut cols key.now leaves) self.new.leaves.items self.new.places }
+        ensures places { self.new.places ≡ finite.remove self.old.places key.now }
     {
-        if let Some(place) = self.places.take(key) {
+        let Some(place) = self.places.take(key) else {
+            return;
+        };
+        if place.leaf < self.leaves.len() {
             self.leaves[place.leaf].clear(alloc, place.slot);
         }
     }
 
     // Cuts all keys, in order.
     pub(crate) fn cut_all(&mut self, alloc: Global, keys: &[Row])
+        ensures { (cols : List Column) (leaves : List Leaf) → IsDraft cols leaves self.old.leaves.items self.old.places → IsDraft cols (cut_keys cols keys.now leaves) self.new.leaves.items self.new.places }
     {
         for key in keys {
             self.cut(alloc, key);
         }
     }
 
-    // The place of the row of a key, where another row of so many bytes has room in it.
-    fn room(&self, key: &Row, size: usize) -> Option<Place>
+    // Whether a row of so many bytes has room in the slot at a place.
+    fn has_room(&self, place: Place, size: usize) -> bool
+        ensures yes { result ≡ true → HasRoom self.now.leaves.items size place }
+        ensures no { result ≡ false → place.leaf < length self.now.leaves.items → place.slot < length (slice_index_or self.now.leaves.items place.leaf [])
+            → (x : List ℕ) → length x ≡ size → 8192 < used (set_slot (slice_index_or self.now.leaves.items place.leaf []) place.slot x) }
     {
-        match self.places.place(key) {
-            Some(place) if self.leaves[place.leaf].has_room(place.slot, size) => Some(place),
-            _ => None,
+        match self.leaves.get(place.leaf) {
+            Some(leaf) => leaf.has_room(place.slot, size),
+            None => false,
         }
+    }
+
+    // The place of the row of a key, where another row of so many bytes has room in its slot.
+    fn room(&self, key: &Row, size: usize) -> Option<Place>
+        ensures place { IfSome result (λ p. finite.get self.now.places key.now ≡ Some p) }
+        ensures room { IfSome result (HasRoom self.now.leaves.items size) }
+        ensures none { IfNone result ((cols : List Column) (leaves : List Leaf) (row : List Value) → IsDraft cols leaves self.now.leaves.items self.now.places → key.now ≡ key_of cols row → length (row_bytes row) ≡ size → has_room cols key.now row leaves ≡ false) }
+    {
+        let place = self.places.place(key)?;
+        if !self.has_room(place, size) {
+            return None;
+        }
+        Some(place)
     }
 
     // Where a new row of so many bytes goes: to the first leaf that has room, else to a new one at the end.
     fn place_for(&mut self, alloc: Global, size: usize) -> Result<Place, NoMemory>
+        requires { size ≤ 8060 }
+        ensures place { IfOk result (IsPlaceFor self.old.leaves.items self.new.leaves.items size) }
+        ensures places { self.new.places ≡ self.old.places }
     {
         for (leaf, slots) in self.leaves.iter().enumerate() {
             if let Some(slot) = slots.slot_for(size) {
                 return Ok(Place { leaf, slot });
             }
         }
+        let leaf = self.leaves.len();
         self.leaves.push(LeafSlots::new(alloc))?;
-        let leaf = self.leaves.len() - 1;
         Ok(Place { leaf, slot: 0 })
     }
 
     // Adds a new row.
     fn add(&mut self, alloc: Global, key: Row, bytes: Bytes) -> Result<(), NoMemory>
+        requires some { bytes ≢ [] }
+        requires small { length bytes ≤ 8060 }
+        ensures { OnOk result ((cols : List Column) (leaves : List Leaf) (row : List Value) → IsDraft cols leaves self.old.leaves.items self.old.places → MayPut cols row → key ≡ key_of cols row → bytes ≡ row_bytes row
+            → finite.get self.old.places key ≡ None → IsDraft cols (add row leaves) self.new.leaves.items self.new.places) }
     {
         let place = self.place_for(alloc, bytes.len())?;
         self.leaves[place.leaf].set(place.slot, bytes)?;
@@ -129,6 +164,8 @@ impl Draft {
 
     // Puts a row.
     fn put(&mut self, alloc: Global, cols: &Columns, row: &Row) -> Result<(), NoMemory>
+        requires { MayPut cols.now row.now }
+        ensures { OnOk result ((leaves : List Leaf) → IsDraft cols.now leaves self.old.leaves.items self.old.places → IsDraft cols.now (put cols.now row.now leaves) self.new.leaves.items self.new.places) }
     {
         let key = key_of(alloc, cols.as_slice(), row)?;
         let bytes = encode(alloc, row, cols)?;
@@ -148,6 +185,8 @@ impl Draft {
         cols: &Columns,
         rows: &[Row],
     ) -> Result<(), NoMemory>
+        requires { All (MayPut cols.now) rows.now }
+        ensures { OnOk result ((leaves : List Leaf) → IsDraft cols.now leaves self.old.leaves.items self.old.places → IsDraft cols.now (put_rows cols.now rows.now leaves) self.new.leaves.items self.new.places) }
     {
         for row in rows {
             self.put(alloc, cols, row)?;

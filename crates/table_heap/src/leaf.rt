@@ -130,11 +130,14 @@ impl LeafSlots {
 
     // Whether a row of so many bytes has room in the slot of another one.
     pub(crate) fn has_room(&self, slot: usize, size: usize) -> bool
-        requires { slot < length self.now }
+        ensures there { result ≡ true → slot < length self.now }
         ensures yes { result ≡ true → (x : List ℕ) → length x ≡ size → used (set_slot self.now slot x) ≤ 8192 }
-        ensures no { result ≡ false → (x : List ℕ) → length x ≡ size → 8192 < used (set_slot self.now slot x) }
+        ensures no { result ≡ false → slot < length self.now → (x : List ℕ) → length x ≡ size → 8192 < used (set_slot self.now slot x) }
     {
-        size <= PAGE - self.taken + self.slots[slot].len()
+        match self.slots.get(slot) {
+            Some(bytes) => size <= PAGE - self.taken + bytes.len(),
+            None => false,
+        }
     }
 
     // Puts bytes into a slot, where there is room.
@@ -155,11 +158,13 @@ impl LeafSlots {
         Ok(())
     }
 
-    // Empties a slot.
+    // Empties a slot, if it is there.
     pub(crate) fn clear(&mut self, alloc: Global, slot: usize)
-        requires { slot < length self.old }
-        ensures { self.new ≡ cleared self.old slot }
+        ensures { slot < length self.old → self.new ≡ cleared self.old slot }
     {
+        if self.slots.len() <= slot {
+            return;
+        }
         self.slots[slot] = Bytes::new(alloc);
         let filled = filled(self.slots.as_slice());
         self.slots.truncate(filled);

@@ -1,0 +1,49 @@
+-- What becomes of the root pages of a heap that gets leaves: pages that are claimed, each by its number.
+use Rattle.std.specs.Prelude.{◌≡◌, ◌==◌, ◌<◌, ◌≤◌, if◌then◌else◌, Option, None, Some, ℕ, ◌+◌, List, [], ◌∷◌, ◌++◌, length, drop, map}
+use Rattle.std.specs.Option.{option_to_list}
+use Rattle.page_base.specs.declared.numbers.PageId.{PageId}
+use Rattle.table_walk.specs.declared.plan.Spot.{Spot}
+use Rattle.table_walk.specs.declared.plan.Spot.TheVariants.{New}
+use Rattle.table_walk.specs.Addresses.{address}
+
+-- how often a number is one of these
+abbrev pub count_of : ℕ → List ℕ → ℕ
+count_of i [] = 0
+count_of i (j ∷ js) = (if j == i then 1 else 0) + count_of i js
+
+-- these are the numbers below n, each once
+pub record IsNumbering (n : ℕ) (claims : List ℕ) : Type 0 where
+  pub each : (i : ℕ) → i < n → count_of i claims ≡ 1
+  pub below : (i : ℕ) → n ≤ i → count_of i claims ≡ 0
+
+-- a root page that gets leaves: their claims, and that of the next root page
+pub record RootPage : Type 0 where
+  pub spot : Spot
+  pub names : List ℕ
+  pub next : Option ℕ
+
+-- its slot 0: the next root page, or what it was; five zeros on a new page
+abbrev pub slot_0 : (ℕ → PageId) → Option ℕ → List (List ℕ) → List ℕ
+slot_0 claimed (Some j) old = address (claimed j)
+slot_0 claimed None [] = 0 ∷ 0 ∷ 0 ∷ 0 ∷ 0 ∷ []
+slot_0 claimed None (x ∷ xs) = x
+
+-- its slots afterwards: the leaves are named behind those that it names already
+abbrev pub root_made : (ℕ → PageId) → List (List ℕ) → RootPage → List (List ℕ)
+root_made claimed old r = slot_0 claimed r.next old ∷ (drop 1 old ++ map (λ i. address (claimed i)) r.names)
+
+-- such pages from one of `count` slots on, with slot 0: each but the last is full then, and each but the first is new
+abbrev pub IsChain : ℕ → List RootPage → Type 0
+IsChain count [] = ⊥
+IsChain count (r ∷ []) = (r.next ≡ None) × (count + length r.names ≤ 1001)
+IsChain count (r ∷ s ∷ rest) = (j : ℕ) × (r.next ≡ Some j) × (s.spot ≡ New j) × (count + length r.names ≡ 1001) × IsChain 1 (s ∷ rest)
+
+-- the claims of the leaves
+abbrev pub leaf_claims : List RootPage → List ℕ
+leaf_claims [] = []
+leaf_claims (r ∷ rs) = r.names ++ leaf_claims rs
+
+-- the claims of the root pages
+abbrev pub root_claims : List RootPage → List ℕ
+root_claims [] = []
+root_claims (r ∷ rs) = option_to_list r.next ++ root_claims rs
