@@ -2,24 +2,25 @@
 use Rattle.std.proofs.Common.{refl, ◌≡◌, ◌≢◌, ℕ, zero, suc, ◌+◌, ◌<◌, ◌≤◌, Bool, true, false, cond, List, [], ◌∷◌, ◌++◌, length, get_or, set, map, ap, sym, ◌∙◌, subst, arith, inl, inr, ◌⊎◌, ◌↔◌}
 use Rattle.std.specs.Prelude.{Option, Some, None}
 use Rattle.std.specs.FinMap as finite
-use Rattle.std.specs.FinMap.{get-insert, get-remove}
+use Rattle.std.specs.FinMap.{get-insert, get-remove, get-empty}
 use Rattle.std.proofs.lemmas.Bool.{cases_eq, lt-leb, le-leb}
 use Rattle.std.proofs.lemmas.List.{map-set, length-map, map-append}
 use Rattle.page_base.specs.declared.column.Column.{Column}
 use Rattle.page_base.specs.declared.value.Value.{Value}
+use Rattle.page_base.specs.Order.{key_cmp}
 use Rattle.page_base.proofs.Ordered.{key_cmp_total}
 use Rattle.page_fmt.specs.Edits.{set_slot, cleared}
 use Rattle.page_fmt.specs.Edits as slots
 use Rattle.page_fmt.specs.Spelling.{used}
 use Rattle.plain_model.specs.Tables.{key_of}
-use Rattle.row_fmt.specs.Rows.{row_bytes, null_bytes}
-use Rattle.row_fmt.proofs.RowLemmas.{length-fits}
+use Rattle.row_fmt.specs.Rows.{row_bytes, null_bytes, IsRow}
+use Rattle.row_fmt.proofs.RowLemmas.{length-fits, one_row}
 use Rattle.row_fmt.proofs.SizeLemmas.{row_size}
 use Rattle.table_walk.proofs.RowsLemmas.{Key, same_key, ties, itself, no_Some, same_Some}
 use Rattle.table_heap.specs.declared.places.Place.{Place}
-use Rattle.table_heap.specs.Leaves.{Leaf, cell, slots_of, fits, trimmed, cut, has_room, swap, added, add, put}
+use Rattle.table_heap.specs.Leaves.{Leaf, cell, slots_of, fits, trimmed, cut, cut_keys, has_room, swap, added, add, put, put_rows}
 use Rattle.table_heap.specs.Planning.{MayPut}
-use Rattle.table_heap.specs.Places.{IsFirstEmpty, IsKeyAt, IsDraft, IsPlaceFor, LacksRoom, Index, row_at}
+use Rattle.table_heap.specs.Places.{IsFirstEmpty, IsKeyAt, IsDraft, IsPlaceFor, LacksRoom, AreRows, AreApart, IsSoFar, IsBefore, Index, row_at}
 use Rattle.table_heap.proofs.PlaceLemmas.{Row, Updates, IsFull, OnlyAt, NoneAt, AddsAt, cell_at, slots_set, slots_trimmed, trimmed_at, within, cut_is, cut_none, cut_updates, swap_is, swap_updates, room_is, room_none, added_is, add_is, add_last, set_leaf, leaf_within, more_at, fits_true, fits_false}
 use Rattle.table_heap.proofs.SlotsLemmas.{set_within}
 
@@ -147,9 +148,6 @@ index_add cols old new index row p ix none empty u k q = (there, back)
         by ne false f = get_put index (key_of cols row) p k ∙ ap (λ b. cond b (Some p) (finite.get index k)) f ∙ (ix k q).1 (was cols old new p q (Some row) k u ne a)
 
 -- THE ROWS
-
-abbrev pub AreRows : List Column → List Leaf → Type 0
-AreRows cols leaves = (i j : ℕ) (row : Row) → row_at leaves i j ≡ Some row → MayPut cols row
 
 rows_updated : (cols : List Column) (old new : List Leaf) (i j : ℕ) (to : Option Row) → AreRows cols old → Updates (row_at old) (row_at new) i j to → ((row : Row) → to ≡ Some row → MayPut cols row) → AreRows cols new
 rows_updated cols old new i j to rows u may k l row e =
@@ -385,8 +383,118 @@ add_draft cols leaves old mid new index row p d may none place made = elim place
 
 -- a row that has no room in place of another is cut, and added
 pub put_is : (cols : List Column) (leaves : List Leaf) (row : Row) → has_room cols (key_of cols row) row leaves ≡ false → put cols row leaves ≡ add row (cut cols (key_of cols row) leaves)
-put_is cols leaves row no = ap (λ b. cond b (swap cols (key_of cols row) row leaves) (add row (cut cols (key_of cols row) leaves))) no
+put_is cols leaves row lacks = ap (λ b. cond b (swap cols (key_of cols row) row leaves) (add row (cut cols (key_of cols row) leaves))) lacks
 
 -- a key that was taken out isn't there
 pub taken_out : (index : Index) (key : Key) → finite.get (finite.remove index key) key ≡ None
 taken_out index key = get_cut index key key ∙ ap (λ b. cond b None (finite.get index key)) (itself key)
+
+-- KEYS AND ROWS IN TURN
+
+pub cut_more : (cols : List Column) (ks : List Key) (k : Key) (leaves : List Leaf) → cut_keys cols (ks ++ k ∷ []) leaves ≡ cut cols k (cut_keys cols ks leaves)
+cut_more cols [] k leaves = refl
+cut_more cols (q ∷ qs) k leaves = cut_more cols qs k (cut cols q leaves)
+
+pub put_more : (cols : List Column) (rs : List Row) (r : Row) (leaves : List Leaf) → put_rows cols (rs ++ r ∷ []) leaves ≡ put cols r (put_rows cols rs leaves)
+put_more cols [] r leaves = refl
+put_more cols (q ∷ qs) r leaves = put_more cols qs r (put cols q leaves)
+
+-- THE INDEX OF LEAVES THAT ARE READ
+
+pub so_far_none : (cols : List Column) (leaves : List Leaf) (index : Index) → index ≡ finite.empty → IsSoFar cols leaves 0 0 index
+so_far_none cols leaves index e k p = ((λ h. no_Some p (sym h ∙ ap (λ (m : Index). finite.get m k) e ∙ get-empty key_cmp k)), λ h. elim h.1 [ inl lt ↦ absurd (omega arith) | inr at ↦ let lt = at.1 in absurd (omega arith) ])
+
+pub so_far_empty : (cols : List Column) (leaves : List Leaf) (i j : ℕ) (index : Index) → IsSoFar cols leaves i j index → row_at leaves i j ≡ None → IsSoFar cols leaves i (j + 1) index
+so_far_empty cols leaves i j index s none k p = ((λ e. let a = (s k p).0 e in (a.0, later a.1)), λ a. (s k p).1 (a.0, earlier a.0 a.1))
+  where
+    later : IsBefore i j p → IsBefore i (j + 1) p
+    later (inl lt) = inl lt
+    later (inr at) = let lt = at.1 in inr (at.0, omega arith)
+
+    earlier : IsKeyAt cols leaves k p → IsBefore i (j + 1) p → IsBefore i j p
+    earlier a (inl lt) = inl lt
+    earlier a (inr at) =
+        let lt = at.1 in
+        elim (cases_eq p.slot j) [
+          | inl e ↦ no_Some a.row (sym a.at ∙ (λ x. row_at leaves (at.0 x) (e x)) ∙ none)
+          | inr ne ↦ inr (at.0, omega arith)
+        ]
+
+pub so_far_row : (cols : List Column) (leaves : List Leaf) (i j : ℕ) (index : Index) (row : Row) (key : Key) (at : Place) → AreApart cols leaves → IsSoFar cols leaves i j index → row_at leaves i j ≡ Some row → key ≡ key_of cols row → at ≡ record { leaf = i; slot = j }
+    → IsSoFar cols leaves i (j + 1) (finite.insert index key at)
+so_far_row cols leaves i j index row key at apart s here key_is at_is k p = (there, back)
+  where
+    it : IsKeyAt cols leaves key at
+    it = subst (IsKeyAt cols leaves key) (sym at_is) (record { row = row; at = here; key_is = sym key_is })
+
+    before_it : IsBefore i (j + 1) at
+    before_it = subst (IsBefore i (j + 1)) (sym at_is) (inr (refl, omega arith))
+
+    later : IsBefore i j p → IsBefore i (j + 1) p
+    later (inl lt) = inl lt
+    later (inr b) = let lt = b.1 in inr (b.0, omega arith)
+
+    there : finite.get (finite.insert index key at) k ≡ Some p → IsKeyAt cols leaves k p × IsBefore i (j + 1) p
+    there e = by (same_key k key) refl (sym (get_put index key at k) ∙ e)
+      where
+        by : (b : Bool) → same_key k key ≡ b → cond b (Some at) (finite.get index k) ≡ Some p → IsKeyAt cols leaves k p × IsBefore i (j + 1) p
+        by true f g =
+            let same : at ≡ p = same_Some at p g in
+            (subst (λ (x : Key). IsKeyAt cols leaves x p) (sym (ties k key f)) (subst (IsKeyAt cols leaves key) same it), subst (IsBefore i (j + 1)) same before_it)
+        by false f g = let a = (s k p).0 g in (a.0, later a.1)
+
+    back : IsKeyAt cols leaves k p × IsBefore i (j + 1) p → finite.get (finite.insert index key at) k ≡ Some p
+    back a = get_put index key at k ∙ by (same_key k key) refl
+      where
+        other : same_key k key ≡ false → IsBefore i (j + 1) p → IsBefore i j p
+        other f (inl lt) = inl lt
+        other f (inr b) =
+            let lt = b.1 in
+            elim (cases_eq p.slot j) [
+              | inl e ↦
+                  let same : p ≡ at = place_is p (record { leaf = i; slot = j }) b.0 e ∙ sym at_is in
+                  let eq : k ≡ key = one_key cols leaves k key at (subst (IsKeyAt cols leaves k) same a.0) it in
+                  let yes : same_key k key ≡ true = ap (λ (x : Key). same_key x key) eq ∙ itself key in
+                  let wrong : true ≡ false = sym yes ∙ f in
+                  cc
+              | inr ne ↦ inr (b.0, omega arith)
+            ]
+
+        by : (b : Bool) → same_key k key ≡ b → cond b (Some at) (finite.get index k) ≡ Some p
+        by true f = ap Some (apart key at p it (subst (λ (x : Key). IsKeyAt cols leaves x p) (ties k key f) a.0))
+        by false f = (s k p).1 (a.0, other f a.1)
+
+pub so_far_leaf : (cols : List Column) (leaves : List Leaf) (i j : ℕ) (index : Index) → IsSoFar cols leaves i j index → length (get_or leaves i []) ≤ j → IsSoFar cols leaves (i + 1) 0 index
+so_far_leaf cols leaves i j index s past k p = ((λ e. let a = (s k p).0 e in (a.0, later a.1)), λ a. (s k p).1 (a.0, earlier a.0 a.1))
+  where
+    later : IsBefore i j p → IsBefore (i + 1) 0 p
+    later (inl lt) = inl (omega arith)
+    later (inr at) = let e = at.0 in inl (omega arith)
+
+    earlier : IsKeyAt cols leaves k p → IsBefore (i + 1) 0 p → IsBefore i j p
+    earlier a (inr at) = let lt = at.1 in absurd (omega arith)
+    earlier a (inl lt) = elim (cases_eq p.leaf i) [
+      | inl e ↦
+          let h : p.slot < length (get_or leaves p.leaf []) = within (get_or leaves p.leaf []) p.slot a.row a.at in
+          let same : length (get_or leaves p.leaf []) ≡ length (get_or leaves i []) = ap (λ n. length (get_or leaves n [])) e in
+          inr (e, omega arith)
+      | inr ne ↦ inl (omega arith)
+    ]
+
+pub so_far_all : (cols : List Column) (leaves : List Leaf) (i : ℕ) (index : Index) → IsSoFar cols leaves i 0 index → length leaves ≤ i → Indexes cols leaves index
+so_far_all cols leaves i index s past k p = ((λ e. ((s k p).0 e).0), λ a. let h : p.leaf < length leaves = leaf_within leaves p.leaf p.slot a.row a.at in (s k p).1 (a, inl (omega arith)))
+
+-- what stands in a slot that is read
+pub slot_none : (cols : List Column) (leaves : List Leaf) (i j : ℕ) (slots : List (List ℕ)) → AreRows cols leaves → slots_of (get_or leaves i []) ≡ slots → get_or slots j [] ≡ [] → row_at leaves i j ≡ None
+slot_none cols leaves i j slots rows are e = by (row_at leaves i j) refl (sym (cell_at (get_or leaves i []) j) ∙ ap (λ (s : List (List ℕ)). get_or s j []) are ∙ e)
+  where
+    by : (o : Option Row) → row_at leaves i j ≡ o → cell o ≡ [] → o ≡ None
+    by None f g = refl
+    by (Some row) f g = absurd (row_some cols row (rows i j row f) g)
+
+pub slot_some : (cols : List Column) (leaves : List Leaf) (i j : ℕ) (slots : List (List ℕ)) (bytes : List ℕ) (row : Row) → AreRows cols leaves → slots_of (get_or leaves i []) ≡ slots → bytes ≡ get_or slots j [] → bytes ≢ [] → IsRow cols bytes row → row_at leaves i j ≡ Some row
+slot_some cols leaves i j slots bytes row rows are is ne r = by (row_at leaves i j) refl (sym (cell_at (get_or leaves i []) j) ∙ ap (λ (s : List (List ℕ)). get_or s j []) are ∙ sym is)
+  where
+    by : (o : Option Row) → row_at leaves i j ≡ o → cell o ≡ bytes → o ≡ Some row
+    by None f g = absurd (ne (sym g))
+    by (Some other) f g = ap Some (one_row cols bytes other row (record { of = (rows i j other f).of; spelled = sym g }) r)

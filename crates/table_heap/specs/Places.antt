@@ -31,10 +31,26 @@ pub record IsKeyAt (cols : List Column) (leaves : List Leaf) (key : List Value) 
 abbrev pub Index : Type 0
 Index = finite.FinMap key_cmp Place
 
+-- the rows of leaves may all be put
+abbrev pub AreRows : List Column → List Leaf → Type 0
+AreRows cols leaves = (i j : ℕ) (row : List Value) → row_at leaves i j ≡ Some row → MayPut cols row
+
+-- no two rows have one key
+abbrev pub AreApart : List Column → List Leaf → Type 0
+AreApart cols leaves = (key : List Value) (p q : Place) → IsKeyAt cols leaves key p → IsKeyAt cols leaves key q → p ≡ q
+
+-- this place comes before a slot of a leaf
+abbrev pub IsBefore : ℕ → ℕ → Place → Type 0
+IsBefore i j p = (p.leaf < i) ⊎ ((p.leaf ≡ i) × (p.slot < j))
+
+-- an index tells the places of the rows before a slot of a leaf
+abbrev pub IsSoFar : List Column → List Leaf → ℕ → ℕ → Index → Type 0
+IsSoFar cols leaves i j index = (key : List Value) (p : Place) → (finite.get index key ≡ Some p) ↔ (IsKeyAt cols leaves key p × IsBefore i j p)
+
 -- a draft has these leaves, and its index tells the place of each key's row, and of no other
 pub record IsDraft (cols : List Column) (leaves : List Leaf) (slots : List (List (List ℕ))) (index : Index) : Type 0 where
   pub are : slots ≡ map slots_of leaves
-  pub rows : (i j : ℕ) (row : List Value) → row_at leaves i j ≡ Some row → MayPut cols row
+  pub rows : AreRows cols leaves
   pub index_is : (key : List Value) (p : Place) → (finite.get index key ≡ Some p) ↔ IsKeyAt cols leaves key p
 
 -- no new row of so many bytes fits into these slots

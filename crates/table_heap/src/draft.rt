@@ -1,6 +1,6 @@
 //! A draft of the leaves: keys are cut from them and rows put into them, before any page changes.
 
-ghost use Rattle.std.specs.Prelude.{ℕ, List, [], true, false, Some, None, ◌≡◌, ◌≢◌, ◌<◌, ◌≤◌, OnOk, IfOk, IfErr, IfSome, IfNone, All, length, map, slice_index_or};
+ghost use Rattle.std.specs.Prelude.{ℕ, List, [], true, false, Some, None, ◌≡◌, ◌≢◌, ◌<◌, ◌≤◌, ◌+◌, OnOk, IfOk, IfErr, IfSome, IfNone, All, length, map, slice_index_or};
 ghost use Rattle.std.specs.FinMap as finite;
 ghost use Rattle.page_base.specs.declared.column.Column.{Column};
 ghost use Rattle.page_base.specs.declared.value.Value.{Value};
@@ -9,9 +9,12 @@ ghost use Rattle.page_fmt.specs.Seen.{Looked};
 ghost use Rattle.page_fmt.specs.Spelling.{used};
 ghost use Rattle.plain_model.specs.Tables.{key_of};
 ghost use Rattle.row_fmt.specs.Rows.{row_bytes};
-ghost use Rattle.table_heap.specs.Leaves.{Leaf, cut, cut_keys, put, put_rows, add, has_room};
+ghost use Rattle.std.specs.List.{Any};
+ghost use Rattle.table_walk.specs.Answers.{IsAt, IsOn};
+ghost use Rattle.table_walk.specs.Tables.{IsNoRow};
+ghost use Rattle.table_heap.specs.Leaves.{Leaf, slots_of, cut, cut_keys, put, put_rows, add, has_room};
 ghost use Rattle.table_heap.specs.Planning.{MayPut};
-ghost use Rattle.table_heap.specs.Places.{IsDraft, IsPlaceFor, HasRoom};
+ghost use Rattle.table_heap.specs.Places.{AreApart, AreRows, IsDraft, IsPlaceFor, IsSoFar, HasRoom};
 
 use crate::leaf::LeafSlots;
 use crate::places::{KeyPlaces, Place};
@@ -38,6 +41,9 @@ fn add_places(
     places: &mut KeyPlaces,
 ) -> Result<(), SeenRefusal>
     requires { i < length seen.now }
+    ensures places { OnOk result ((d : Looked) (leaves : List Leaf) → slots_of (slice_index_or leaves leaf []) ≡ (slice_index_or seen.now i d).slots → AreRows cols.now leaves → AreApart cols.now leaves
+        → IsSoFar cols.now leaves leaf 0 places.old → IsSoFar cols.now leaves (leaf + 1) 0 places.new) }
+    ensures bad { IfErr result (λ e. (d : Looked) → IsOn (slice_index_or seen.now i d).page (IsNoRow cols.now (slice_index_or seen.now i d).slots) e) }
 {
     let page = seen.page(i);
     for j in 0..seen.slots(i) {
@@ -62,6 +68,10 @@ impl Draft {
         pages: &[usize],
     ) -> Result<Self, SeenRefusal>
         requires { All (λ i. i < length seen.now) pages.now }
+        ensures draft { IfOk result (λ draft. (d : Looked) (leaves : List Leaf) → map (λ i. (slice_index_or seen.now i d).slots) pages.now ≡ map slots_of leaves → AreRows cols.now leaves → AreApart cols.now leaves
+            → IsDraft cols.now leaves draft.leaves.items draft.places) }
+        ensures many { IfOk result (λ draft. length draft.leaves.items ≡ length pages.now) }
+        ensures bad { IfErr result (λ e. (d : Looked) → IsAt (λ page slot. Any (λ i. ((slice_index_or seen.now i d).page ≡ page) × IsNoRow cols.now (slice_index_or seen.now i d).slots slot) pages.now) e) }
     {
         let mut leaves = Vec::new(alloc);
         let mut places = KeyPlaces::new(alloc);
@@ -127,7 +137,9 @@ impl Draft {
         ensures room { IfSome result (HasRoom self.now.leaves.items size) }
         ensures none { IfNone result ((cols : List Column) (leaves : List Leaf) (row : List Value) → IsDraft cols leaves self.now.leaves.items self.now.places → key.now ≡ key_of cols row → length (row_bytes row) ≡ size → has_room cols key.now row leaves ≡ false) }
     {
-        let place = self.places.place(key)?;
+        let Some(place) = self.places.place(key) else {
+            return None;
+        };
         if !self.has_room(place, size) {
             return None;
         }

@@ -134,10 +134,10 @@ impl LeafSlots {
         ensures yes { result ≡ true → (x : List ℕ) → length x ≡ size → used (set_slot self.now slot x) ≤ 8192 }
         ensures no { result ≡ false → slot < length self.now → (x : List ℕ) → length x ≡ size → 8192 < used (set_slot self.now slot x) }
     {
-        match self.slots.get(slot) {
-            Some(bytes) => size <= PAGE - self.taken + bytes.len(),
-            None => false,
+        if self.slots.len() <= slot {
+            return false;
         }
+        size <= PAGE - self.taken + self.slots[slot].len()
     }
 
     // Puts bytes into a slot, where there is room.
