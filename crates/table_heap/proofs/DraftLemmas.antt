@@ -174,7 +174,7 @@ row_some cols row may none =
 full_leaf : (cols : List Column) (leaves : List Leaf) (i : ℕ) → AreRows cols leaves → IsFull (get_or leaves i [])
 full_leaf cols leaves i rows j row e = row_some cols row (rows i j row e)
 
-map_at : (leaves : List Leaf) (i : ℕ) → get_or (map slots_of leaves) i [] ≡ slots_of (get_or leaves i [])
+pub map_at : (leaves : List Leaf) (i : ℕ) → get_or (map slots_of leaves) i [] ≡ slots_of (get_or leaves i [])
 map_at [] i = refl
 map_at (l ∷ ls) zero = refl
 map_at (l ∷ ls) (suc i) = map_at ls i

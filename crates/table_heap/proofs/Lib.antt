@@ -7,3 +7,4 @@ pub mod PlaceLemmas
 pub mod SlotsLemmas
 pub mod ShapeLemmas
 pub mod DraftLemmas
+pub mod ReadLemmas
