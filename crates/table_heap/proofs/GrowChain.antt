@@ -79,7 +79,7 @@ module _ (claimed : ℕ → PageId) where
   map_length (x ∷ xs) = ap (λ n. suc n) (map_length xs)
 
   -- the pages that a plan changes, from one on that names `olds` already
-  chain_made : (at other : SlotsAt) (r : RootPage) (rest : List RootPage) (olds : List PageId) → NamedBefore (at (place claimed r.spot)) olds → IsChain (1 + length olds) (r ∷ rest)
+  pub chain_made : (at other : SlotsAt) (r : RootPage) (rest : List RootPage) (olds : List PageId) → NamedBefore (at (place claimed r.spot)) olds → IsChain (1 + length olds) (r ∷ rest)
       → AreTargets claimed (leaf_claims (r ∷ rest)) → AreTargets claimed (root_claims (r ∷ rest)) → ((j : ℕ) → 1 ≤ count_of j (root_claims (r ∷ rest)) → at (claimed j) ≡ [])
       → All (λ q. other (place claimed q.spot) ≡ root_made claimed (at (place claimed q.spot)) q) (r ∷ rest)
       → Chain other (place claimed r.spot ∷ map claimed (root_claims (r ∷ rest))) (olds ++ map claimed (leaf_claims (r ∷ rest)))
@@ -117,7 +117,7 @@ module _ (claimed : ℕ → PageId) where
       subst (λ ps. Chain other (place claimed r.spot ∷ map claimed (root_claims (r ∷ s ∷ rest))) ps) (sym all) (subst (λ js. Chain other (place claimed r.spot ∷ map claimed js) (first ++ later)) (sym roots) whole)
 
 -- the pages before stay as they are
-last_leaves : (at : SlotsAt) (last : PageId) (leaves : List PageId) → Chain at (last ∷ []) leaves → IsRootPage (at last) leaves []
+pub last_leaves : (at : SlotsAt) (last : PageId) (leaves : List PageId) → Chain at (last ∷ []) leaves → IsRootPage (at last) leaves []
 last_leaves at last leaves c = subst (λ ps. IsRootPage (at last) ps []) (sym (append-nil (take 1000 leaves)) ∙ ap (λ ps. take 1000 leaves ++ ps) (sym c.1) ∙ take-append-drop 1000 leaves) c.0
 
 full_page : (s : List (List ℕ)) (ls : List PageId) (q : PageId) (rs : List PageId) → IsRootPage s ls (q ∷ rs) → length ls ≡ 1000

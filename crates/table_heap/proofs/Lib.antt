@@ -1,9 +1,11 @@
+pub mod DraftLemmas
 pub mod GrowChain
 pub mod GrowLemmas
 pub mod GrowRows
+pub mod GrowTable
 pub mod HeapLemmas
 pub mod LeafLemmas
 pub mod PlaceLemmas
-pub mod SlotsLemmas
+pub mod PutLemmas
 pub mod ShapeLemmas
-pub mod DraftLemmas
+pub mod SlotsLemmas
