@@ -1,5 +1,6 @@
 pub mod DraftLemmas
 pub mod GrowChain
+pub mod GrowEdits
 pub mod GrowLemmas
 pub mod GrowRows
 pub mod GrowTable

@@ -1,7 +1,8 @@
 -- What becomes of the root pages of a heap that gets leaves: pages that are claimed, each by its number.
-use Rattle.std.specs.Prelude.{◌≡◌, ◌==◌, ◌<◌, ◌≤◌, if◌then◌else◌, Option, None, Some, ℕ, ◌+◌, List, [], ◌∷◌, ◌++◌, length, drop, map}
+use Rattle.std.specs.Prelude.{◌≡◌, ◌==◌, ◌<◌, ◌≤◌, if◌then◌else◌, Option, None, Some, ℕ, zero, suc, ◌+◌, max, List, [], ◌∷◌, ◌++◌, length, drop, map}
 use Rattle.std.specs.Option.{option_to_list}
 use Rattle.page_base.specs.declared.numbers.PageId.{PageId}
+use Rattle.table_walk.specs.declared.plan.Edit.{Edit}
 use Rattle.table_walk.specs.declared.plan.Spot.{Spot}
 use Rattle.table_walk.specs.declared.plan.Spot.TheVariants.{New}
 use Rattle.table_walk.specs.Addresses.{address}
@@ -47,3 +48,18 @@ leaf_claims (r ∷ rs) = r.names ++ leaf_claims rs
 abbrev pub root_claims : List RootPage → List ℕ
 root_claims [] = []
 root_claims (r ∷ rs) = option_to_list r.next ++ root_claims rs
+
+-- the edit of its slot 0, where that changes: it names the next root page, or none on a page of no slots
+abbrev pub front_edits : Spot → ℕ → Option ℕ → List Edit
+front_edits spot count (Some j) = record { spot = spot; slot = 0; names = Some j; bytes = [] } ∷ []
+front_edits spot zero None = record { spot = spot; slot = 0; names = None; bytes = 0 ∷ 0 ∷ 0 ∷ 0 ∷ 0 ∷ [] } ∷ []
+front_edits spot (suc n) None = []
+
+-- the edits that name leaves in slots, from one on
+abbrev pub name_edits : Spot → ℕ → List ℕ → List Edit
+name_edits spot slot [] = []
+name_edits spot slot (i ∷ is) = record { spot = spot; slot = slot; names = Some i; bytes = [] } ∷ name_edits spot (slot + 1) is
+
+-- the edits of a root page that has so many slots
+abbrev pub root_edits : ℕ → RootPage → List Edit
+root_edits count r = front_edits r.spot count r.next ++ name_edits r.spot (max count 1) r.names
