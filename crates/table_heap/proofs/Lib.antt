@@ -2,6 +2,7 @@ pub mod DraftLemmas
 pub mod GrowChain
 pub mod GrowEdits
 pub mod GrowLemmas
+pub mod GrowRoot
 pub mod GrowRows
 pub mod GrowTable
 pub mod HeapLemmas
