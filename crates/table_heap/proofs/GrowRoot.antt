@@ -10,7 +10,8 @@ use Rattle.table_walk.specs.declared.plan.Spot.{Spot}
 use Rattle.table_walk.specs.Addresses.{address, page_at, page_number, target, names_none, IsTarget}
 use Rattle.table_walk.specs.Plans.{place, bytes_of}
 use Rattle.table_walk.proofs.AddressLemmas.{page_at-address}
-use Rattle.table_heap.specs.Growth.{RootPage, slot_0, root_made, front_edits, name_edits, root_edits}
+use Rattle.table_heap.specs.Growth.{slot_0, root_made, slots_made, front_edits, name_edits, root_edits}
+use Rattle.table_heap.specs.declared.growing.RootPage.{RootPage}
 use Rattle.table_heap.specs.Shape.{Name}
 use Rattle.table_heap.proofs.GrowChain.{NamedBefore}
 use Rattle.table_heap.proofs.GrowEdits.{FitsOn, Turns, turns_append}
@@ -145,16 +146,17 @@ module _ (claimed : ℕ → PageId) (page : PageId) where
           cc_false w = cc
 
 -- the edits of a root page
-pub root_turns : (claimed : ℕ → PageId) (old : List (List ℕ)) (olds : List PageId) (r : RootPage) → NamedBefore old olds → 1 + length olds + length r.names ≤ 1001 → ((j : ℕ) → r.next ≡ Some j → IsTarget (claimed j))
-    → Turns claimed (place claimed r.spot) old (root_made claimed old r) (root_edits (length old) r)
-root_turns claimed old olds r n short t =
-    turns_append claimed (place claimed r.spot) old (slot_0 claimed r.next old ∷ drop 1 old) (root_made claimed old r) (front_edits r.spot (length old) r.next) (name_edits r.spot (max (length old) 1) r.names)
-    (front_turn claimed (place claimed r.spot) r.spot old olds r.next refl n (omega arith) t)
-    (names_turn claimed (place claimed r.spot) r.spot (slot_0 claimed r.next old ∷ drop 1 old) (max (length old) 1) r.names refl (long old) (five old n) (omega (arith, size old n)))
+pub root_turns : (claimed : ℕ → PageId) (old : List (List ℕ)) (olds : List PageId) (r : RootPage) → NamedBefore old olds → r.slots ≡ length old → slots_made r ≤ 1001 → ((j : ℕ) → r.next ≡ Some j → IsTarget (claimed j))
+    → Turns claimed (place claimed r.spot) old (root_made claimed old r) (root_edits r)
+root_turns claimed old olds r n has short t =
+    turns_append claimed (place claimed r.spot) old (slot_0 claimed r.next old ∷ drop 1 old) (root_made claimed old r) (front_edits r.spot r.slots r.next) (name_edits r.spot (max r.slots 1) r.names)
+    (subst (λ k. Turns claimed (place claimed r.spot) old (slot_0 claimed r.next old ∷ drop 1 old) (front_edits r.spot k r.next)) (sym has)
+    (front_turn claimed (place claimed r.spot) r.spot old olds r.next refl n (omega (arith, size old n, long old has)) t))
+    (names_turn claimed (place claimed r.spot) r.spot (slot_0 claimed r.next old ∷ drop 1 old) (max r.slots 1) r.names refl (long old has) (five old n) (omega (arith, long old has)))
   where
-    long : (old : List (List ℕ)) → max (length old) 1 ≡ length (slot_0 claimed r.next old ∷ drop 1 old)
-    long [] = refl
-    long (x ∷ xs) = omega arith
+    long : (old : List (List ℕ)) → r.slots ≡ length old → max r.slots 1 ≡ length (slot_0 claimed r.next old ∷ drop 1 old)
+    long [] e = omega arith
+    long (x ∷ xs) e = omega arith
 
     size : (old : List (List ℕ)) → NamedBefore old olds → length (drop 1 old) ≡ length olds
     size [] n = sym (ap length n)
@@ -165,9 +167,9 @@ root_turns claimed old olds r n short t =
     front [] n None = refl
     front (x ∷ xs) n None = none_length x n.0
 
+    rest : (old : List (List ℕ)) → NamedBefore old olds → AreFive (drop 1 old)
+    rest [] n = refl
+    rest (x ∷ xs) n = five_names xs olds n.1
+
     five : (old : List (List ℕ)) → NamedBefore old olds → AreFive (slot_0 claimed r.next old ∷ drop 1 old)
     five old n = five_cons (slot_0 claimed r.next old) (drop 1 old) (front old n r.next) (rest old n)
-      where
-        rest : (old : List (List ℕ)) → NamedBefore old olds → AreFive (drop 1 old)
-        rest [] n = refl
-        rest (x ∷ xs) n = five_names xs olds n.1

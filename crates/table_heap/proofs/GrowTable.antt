@@ -1,5 +1,5 @@
 -- A heap after its leaves got other slots, and leaves and root pages were added at its end.
-use Rattle.std.proofs.Common.{refl, ◌≡◌, ◌≢◌, ℕ, suc, ◌+◌, ◌<◌, ◌≤◌, List, [], ◌∷◌, ◌++◌, length, map, take, drop, ap, sym, ◌∙◌, subst, arith, Bool, true, append_assoc, length-take, inl, inr}
+use Rattle.std.proofs.Common.{refl, ◌≡◌, ◌≢◌, ℕ, suc, ◌+◌, ◌<◌, ◌≤◌, List, [], ◌∷◌, ◌++◌, length, map, take, drop, max, ap, sym, ◌∙◌, subst, arith, Bool, true, append_assoc, length-take, inl, inr}
 use Rattle.std.specs.Prelude.{◌↔◌}
 use Rattle.std.specs.List.{All}
 use Rattle.std.proofs.lemmas.Bool.{cases_lt}
@@ -14,7 +14,8 @@ use Rattle.table_walk.specs.Addresses.{names_none}
 use Rattle.table_walk.specs.Plans.{place, also, AreFree}
 use Rattle.table_walk.specs.Tables.{cells, Gathers}
 use Rattle.table_walk.specs.Walk.{Reaches, IsWalk}
-use Rattle.table_heap.specs.Growth.{count_of, IsNumbering, RootPage, root_made, IsChain, leaf_claims, root_claims}
+use Rattle.table_heap.specs.Growth.{count_of, IsNumbering, root_made, IsChain, leaf_claims, root_claims}
+use Rattle.table_heap.specs.declared.growing.RootPage.{RootPage}
 use Rattle.table_heap.specs.Heap.{heap_kids, first, RowsAt}
 use Rattle.table_heap.specs.Leaves.{Leaf, slots_of, all_rows, ByKeys}
 use Rattle.table_heap.specs.Planning.{MayPut, HasLeaves}
@@ -32,7 +33,8 @@ pub record Grows (cols : List Column) (at other : SlotsAt) (claimed : ℕ → Pa
   pub more : List RootPage
   pub roots : roots_in done ≡ front ++ last ∷ []
   pub begins : head.spot ≡ Old last
-  pub chain : IsChain (length (at last)) (head ∷ more)
+  pub counted : head.slots ≡ length (at last)
+  pub chain : IsChain (head ∷ more)
   pub numbered : IsNumbering n (leaf_claims (head ∷ more) ++ root_claims (head ∷ more))
   pub changed : All (λ q. other (place claimed q.spot) ≡ root_made claimed (at (place claimed q.spot)) q) (head ∷ more)
   pub kept : (p : PageId) → 1 ≤ times p (roots_in done) → p ≢ last → at p ≡ other p
@@ -75,7 +77,7 @@ grown cols at other owns root old rows claimed n made t free g =
     last_grows olds p =
         let here : IsRootPage (at (place claimed g.head.spot)) olds [] = subst (λ q. IsRootPage (at q) olds []) (sym is_last) p in
         subst (λ q. Chain other (q ∷ map claimed (root_claims (g.head ∷ g.more))) (olds ++ map claimed (leaf_claims (g.head ∷ g.more)))) is_last
-        (chain_made claimed at other g.head g.more olds (named_before (at (place claimed g.head.spot)) olds here) (subst (λ k. IsChain k (g.head ∷ g.more)) (root_length (at g.last) olds [] p) g.chain)
+        (chain_made claimed at other g.head g.more olds (named_before (at (place claimed g.head.spot)) olds here) (omega (arith, g.counted, root_length (at g.last) olds [] p)) g.chain
         (λ i h. free.targets i (below i (omega arith))) (λ i h. free.targets i (below i (omega arith))) (λ i h. free.blank i (below i (omega arith))) g.changed)
 
     whole : (roots leaves : List PageId) → IsHeapOf at root roots leaves → t.0 ≡ visits_of root roots leaves → roots_in t.0 ≡ roots → leaves_in t.0 ≡ leaves → RowsAt cols other (also owns claimed n) root rows × HasLeaves cols other root made

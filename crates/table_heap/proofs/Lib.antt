@@ -5,6 +5,7 @@ pub mod GrowLemmas
 pub mod GrowRoot
 pub mod GrowRows
 pub mod GrowTable
+pub mod GrowingLemmas
 pub mod HeapLemmas
 pub mod LeafLemmas
 pub mod PlaceLemmas
