@@ -1,5 +1,5 @@
 -- The chain of root pages after they name more leaves.
-use Rattle.std.proofs.Common.{refl, ◌≡◌, ◌≢◌, ℕ, zero, suc, ◌+◌, ◌<◌, ◌≤◌, List, [], ◌∷◌, ◌++◌, length, map, take, drop, ap, sym, ◌∙◌, subst, arith, true, Option, None, Some, append_assoc, length-append, length-take, length-drop, inl, inr}
+use Rattle.std.proofs.Common.{refl, ◌≡◌, ◌≢◌, ℕ, zero, suc, ◌+◌, ◌<◌, ◌≤◌, List, [], ◌∷◌, ◌++◌, length, map, take, drop, max, ap, sym, ◌∙◌, subst, arith, true, Option, None, Some, append_assoc, length-append, length-take, length-drop, inl, inr}
 use Rattle.std.specs.Prelude.{◌⊎◌}
 use Rattle.std.specs.List.{All}
 use Rattle.std.specs.Option.{option_to_list}
@@ -12,7 +12,8 @@ use Rattle.table_walk.specs.declared.plan.Spot.TheVariants.{Old, New}
 use Rattle.table_walk.specs.Addresses.{address, page_at, names_none, IsTarget}
 use Rattle.table_walk.specs.Plans.{place}
 use Rattle.table_walk.proofs.AddressLemmas.{page_at-address}
-use Rattle.table_heap.specs.Growth.{count_of, RootPage, slot_0, root_made, IsChain, leaf_claims, root_claims}
+use Rattle.table_heap.specs.Growth.{count_of, slot_0, root_made, slots_made, IsChain, leaf_claims, root_claims}
+use Rattle.table_heap.specs.declared.growing.RootPage.{RootPage}
 use Rattle.table_heap.specs.Shape.{Name, NamesNext, IsRootPage, Chain, times}
 use Rattle.table_heap.proofs.GrowLemmas.{count_append, count_here}
 use Rattle.table_heap.proofs.ShapeLemmas.{Name-length, one_here}
@@ -79,21 +80,21 @@ module _ (claimed : ℕ → PageId) where
   map_length (x ∷ xs) = ap (λ n. suc n) (map_length xs)
 
   -- the pages that a plan changes, from one on that names `olds` already
-  chain_made : (at other : SlotsAt) (r : RootPage) (rest : List RootPage) (olds : List PageId) → NamedBefore (at (place claimed r.spot)) olds → IsChain (1 + length olds) (r ∷ rest)
+  pub chain_made : (at other : SlotsAt) (r : RootPage) (rest : List RootPage) (olds : List PageId) → NamedBefore (at (place claimed r.spot)) olds → 1 + length olds ≡ max r.slots 1 → IsChain (r ∷ rest)
       → AreTargets claimed (leaf_claims (r ∷ rest)) → AreTargets claimed (root_claims (r ∷ rest)) → ((j : ℕ) → 1 ≤ count_of j (root_claims (r ∷ rest)) → at (claimed j) ≡ [])
       → All (λ q. other (place claimed q.spot) ≡ root_made claimed (at (place claimed q.spot)) q) (r ∷ rest)
       → Chain other (place claimed r.spot ∷ map claimed (root_claims (r ∷ rest))) (olds ++ map claimed (leaf_claims (r ∷ rest)))
-  chain_made at other r [] olds n c tl tr blank made =
+  chain_made at other r [] olds n has c tl tr blank made =
       let names : List PageId = olds ++ map claimed r.names in
       let all : olds ++ map claimed (r.names ++ []) ≡ names = ap (λ is. olds ++ map claimed is) (append-nil r.names) in
       let none : option_to_list r.next ++ [] ≡ [] = ap (λ o. option_to_list o ++ []) c.0 in
-      let short : length (olds ++ map claimed r.names) ≤ 1000 = omega (arith, c.1, length-append olds (map claimed r.names), map_length r.names) in
+      let short : length (olds ++ map claimed r.names) ≤ 1000 = omega (arith, has, c.1, length-append olds (map claimed r.names), map_length r.names) in
       let page : IsRootPage (other (place claimed r.spot)) (olds ++ map claimed r.names) [] =
       subst (λ s. IsRootPage s (olds ++ map claimed r.names) []) (sym (All-head (λ (q : RootPage). other (place claimed q.spot) ≡ root_made claimed (at (place claimed q.spot)) q) r [] made))
       (made_last (at (place claimed r.spot)) olds r (targets_front claimed r.names [] tl) n c.0) in
       let whole : Chain other (place claimed r.spot ∷ []) names = (subst (λ ps. IsRootPage (other (place claimed r.spot)) ps []) (sym (take_all 1000 names short)) page, drop_all 1000 names short) in
       subst (λ ps. Chain other (place claimed r.spot ∷ map claimed (root_claims (r ∷ []))) ps) (sym all) (subst (λ js. Chain other (place claimed r.spot ∷ map claimed js) names) (sym none) whole)
-  chain_made at other r (s ∷ rest) olds n c tl tr blank made =
+  chain_made at other r (s ∷ rest) olds n has c tl tr blank made =
       let j : ℕ = c.0 in
       let first : List PageId = olds ++ map claimed r.names in
       let later : List PageId = map claimed (leaf_claims (s ∷ rest)) in
@@ -102,13 +103,13 @@ module _ (claimed : ℕ → PageId) where
       let is_new : place claimed s.spot ≡ claimed j = ap (place claimed) c.2 in
       let tr2 : AreTargets claimed (j ∷ root_claims (s ∷ rest)) = subst (AreTargets claimed) roots tr in
       let empty : at (place claimed s.spot) ≡ [] = ap at is_new ∙ blank j (subst (λ js. 1 ≤ count_of j js) (sym roots) (omega (arith, count_here j j (count_of j (root_claims (s ∷ rest))) refl))) in
-      let many : length (olds ++ map claimed r.names) ≡ 1000 = omega (arith, c.3, length-append olds (map claimed r.names), map_length r.names) in
+      let many : length (olds ++ map claimed r.names) ≡ 1000 = omega (arith, has, c.4, length-append olds (map claimed r.names), map_length r.names) in
       let P : RootPage → Type 0 = λ (q : RootPage). other (place claimed q.spot) ≡ root_made claimed (at (place claimed q.spot)) q in
       let page : IsRootPage (other (place claimed r.spot)) first (claimed j ∷ map claimed (root_claims (s ∷ rest))) =
       subst (λ t. IsRootPage t first (claimed j ∷ map claimed (root_claims (s ∷ rest)))) (sym (All-head P r (s ∷ rest) made))
       (made_full (at (place claimed r.spot)) olds r j (map claimed (root_claims (s ∷ rest))) (targets_front claimed r.names (leaf_claims (s ∷ rest)) tl) (target_head j (root_claims (s ∷ rest)) tr2) n c.1 many) in
       let tail : Chain other (place claimed s.spot ∷ map claimed (root_claims (s ∷ rest))) later =
-      chain_made at other s rest [] (subst (λ t. NamedBefore t []) (sym empty) refl) c.4 (targets_back claimed r.names (leaf_claims (s ∷ rest)) tl) (target_tail j (root_claims (s ∷ rest)) tr2)
+      chain_made at other s rest [] (subst (λ t. NamedBefore t []) (sym empty) refl) (omega (arith, c.3)) c.5 (targets_back claimed r.names (leaf_claims (s ∷ rest)) tl) (target_tail j (root_claims (s ∷ rest)) tr2)
       (λ i h. blank i (subst (λ js. 1 ≤ count_of i js) (sym roots) (omega arith))) (All-tail P r (s ∷ rest) made) in
       let whole : Chain other (place claimed r.spot ∷ claimed j ∷ map claimed (root_claims (s ∷ rest))) (first ++ later) = (
         subst (λ ps. IsRootPage (other (place claimed r.spot)) ps (claimed j ∷ map claimed (root_claims (s ∷ rest)))) (sym (take_at first later 1000 many)) page,
@@ -117,7 +118,7 @@ module _ (claimed : ℕ → PageId) where
       subst (λ ps. Chain other (place claimed r.spot ∷ map claimed (root_claims (r ∷ s ∷ rest))) ps) (sym all) (subst (λ js. Chain other (place claimed r.spot ∷ map claimed js) (first ++ later)) (sym roots) whole)
 
 -- the pages before stay as they are
-last_leaves : (at : SlotsAt) (last : PageId) (leaves : List PageId) → Chain at (last ∷ []) leaves → IsRootPage (at last) leaves []
+pub last_leaves : (at : SlotsAt) (last : PageId) (leaves : List PageId) → Chain at (last ∷ []) leaves → IsRootPage (at last) leaves []
 last_leaves at last leaves c = subst (λ ps. IsRootPage (at last) ps []) (sym (append-nil (take 1000 leaves)) ∙ ap (λ ps. take 1000 leaves ++ ps) (sym c.1) ∙ take-append-drop 1000 leaves) c.0
 
 full_page : (s : List (List ℕ)) (ls : List PageId) (q : PageId) (rs : List PageId) → IsRootPage s ls (q ∷ rs) → length ls ≡ 1000

@@ -129,8 +129,10 @@ pub grown_heap : (at other : SlotsAt) (owns : PageId → Bool) (root : PageId) (
     → Chain other (roots ++ map claimed more_roots) (leaves ++ map claimed more_leaves) → IsGrown at other owns root claimed n (roots ++ map claimed more_roots) (leaves ++ map claimed more_leaves)
 grown_heap at other owns root claimed n roots leaves more_roots more_leaves h owned free numbered chain = record {
   heap = heap;
-  owned = λ p. (λ e. reaches_of other root p (roots ++ map claimed more_roots) (leaves ++ map claimed more_leaves) heap (some p e),
-  λ x. is_owned p (of_reaches other root p (roots ++ map claimed more_roots) (leaves ++ map claimed more_leaves) heap x));
+  owned = λ p. (
+    λ e. reaches_of other root p (roots ++ map claimed more_roots) (leaves ++ map claimed more_leaves) heap (some p e),
+    λ x. is_owned p (of_reaches other root p (roots ++ map claimed more_roots) (leaves ++ map claimed more_leaves) heap x),
+  );
 }
   where
     claims : List ℕ

@@ -1,10 +1,15 @@
+pub mod DraftLemmas
 pub mod GrowChain
+pub mod GrowEdits
 pub mod GrowLemmas
+pub mod GrowRoot
 pub mod GrowRows
+pub mod GrowTable
+pub mod GrowingLemmas
 pub mod HeapLemmas
 pub mod LeafLemmas
 pub mod PlaceLemmas
-pub mod SlotsLemmas
+pub mod PutLemmas
 pub mod ShapeLemmas
-pub mod DraftLemmas
 pub mod ReadLemmas
+pub mod SlotsLemmas

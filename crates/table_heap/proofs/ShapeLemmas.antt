@@ -217,7 +217,7 @@ chain_step at from r rs leaves rest p w = (
   refl,
   subst (λ k. IsOkAnd k (λ m. Walks heap_kids at (m ++ []) (leaf_visits_of r 1 (take 1000 leaves) ++ rest) [])) (sym (names_root r (at r) (take 1000 leaves) rs p (short_take leaves)))
       (subst (λ t. Walks heap_kids at t (leaf_visits_of r 1 (take 1000 leaves) ++ rest) []) (sym (append-nil (leaf_visits_of r 1 (take 1000 leaves) ++ map (root_visit r) (option_to_list (next_of rs)))))
-          (walked_leaves at r 1 (take 1000 leaves) (map (root_visit r) (option_to_list (next_of rs))) rest w)),
+      (walked_leaves at r 1 (take 1000 leaves) (map (root_visit r) (option_to_list (next_of rs))) rest w)),
 )
 
 pub chain_walks : (at : SlotsAt) (from r : PageId) (rs leaves : List PageId) → Chain at (r ∷ rs) leaves → Walks heap_kids at (root_visit from r ∷ []) (visits_of from (r ∷ rs) leaves) []

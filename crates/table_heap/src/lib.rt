@@ -9,6 +9,7 @@ mod leaf;
 mod places;
 mod planning;
 mod reading;
+mod root_edits;
 #[cfg(test)]
 mod tests;
 

@@ -11,16 +11,18 @@ ghost use Rattle.table_heap.specs.Heap.{heap_kids, first, RowsAt};
 ghost use Rattle.table_heap.specs.Planning.{MayPut, Promises};
 
 use crate::draft::Draft;
-use crate::growing::{Growth, RootPage};
+use crate::growing::grown;
 use crate::layout::Heap;
-use crate::reading::first;
 use crate::leaf::copied;
-use page_base::{Bytes, Columns, NoMemory, PageId, RowList};
+use crate::root_edits::add_roots;
+use crate::reading::first;
+use page_base::{Columns, NoMemory, PageId, RowList};
 use page_fmt::Seen;
 use std::alloc::Global;
 use std::collections::BTreeMap;
 use table_walk::{
-    Edit, EditList, Plan, SeenRefusal, Spot, Visit, add_differences, is_leaf, page_index, place, walk,
+    EditList, Plan, SeenRefusal, Spot, Visit, add_differences, is_leaf, page_index, place,
+    walk,
 };
 
 // The places in `seen` of the leaves, or of the root pages.
@@ -74,52 +76,6 @@ fn add_new_leaves(
     Ok(())
 }
 
-// The edit of a root page's slot 0, where it changes.
-fn add_front(alloc: Global, page: &RootPage, edits: &mut EditList) -> Result<(), NoMemory> {
-    let bytes = match page.next {
-        Some(_) => Bytes::new(alloc),
-        None if page.slots == 0 => Bytes::from(Vec::from_slice(alloc, &[0, 0, 0, 0, 0])?),
-        None => return Ok(()),
-    };
-    edits.push(Edit {
-        spot: page.spot,
-        slot: 0,
-        names: page.next,
-        bytes,
-    })
-}
-
-// The edits of a root page.
-fn add_root(alloc: Global, page: &RootPage, edits: &mut EditList) -> Result<(), NoMemory> {
-    add_front(alloc, page, edits)?;
-    for (i, claim) in page.names.iter().enumerate() {
-        edits.push(Edit {
-            spot: page.spot,
-            slot: (page.slots.max(1) + i) as u16,
-            names: Some(*claim),
-            bytes: Bytes::new(alloc),
-        })?;
-    }
-    Ok(())
-}
-
-// The edits of all root pages.
-fn add_roots(alloc: Global, growth: &Growth, edits: &mut EditList) -> Result<(), NoMemory> {
-    for page in growth.full.iter() {
-        add_root(alloc, page, edits)?;
-    }
-    add_root(alloc, &growth.last, edits)
-}
-
-// What is claimed for so many leaves.
-fn grown(alloc: Global, last: PageId, slots: usize, leaves: usize) -> Result<Growth, NoMemory> {
-    let mut growth = Growth::new(alloc, last, slots);
-    for _ in 0..leaves {
-        growth.add_leaf(alloc)?;
-    }
-    Ok(growth)
-}
-
 /// The edits that cut keys from the heap with this root, of which all pages were read, and then put rows into it, one at a
 /// time in the order given.
 pub fn plan(
@@ -148,7 +104,13 @@ pub fn plan(
     let growth = grown(alloc, seen.page(last), usize::from(seen.slots(last)), more)?;
     let mut edits = EditList::new(alloc);
     add_old_leaves(alloc, seen, pages.as_slice(), &draft, &mut edits)?;
-    add_new_leaves(alloc, pages.len(), growth.leaves.as_slice(), &draft, &mut edits)?;
+    add_new_leaves(
+        alloc,
+        pages.len(),
+        growth.leaves.as_slice(),
+        &draft,
+        &mut edits,
+    )?;
     add_roots(alloc, &growth, &mut edits)?;
     Ok(Plan {
         new_pages: growth.claims,
