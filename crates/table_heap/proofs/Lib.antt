@@ -1,3 +1,4 @@
+pub mod ApartLemmas
 pub mod DraftLemmas
 pub mod GrowChain
 pub mod GrowEdits
@@ -13,3 +14,4 @@ pub mod PutLemmas
 pub mod ShapeLemmas
 pub mod ReadLemmas
 pub mod SlotsLemmas
+pub mod TurnLemmas

@@ -1,12 +1,12 @@
 //! A draft of the leaves: keys are cut from them and rows put into them, before any page changes.
 
-ghost use Rattle.std.specs.Prelude.{ℕ, List, [], true, false, Some, None, ◌≡◌, ◌≢◌, ◌<◌, ◌≤◌, ◌+◌, OnOk, IfOk, IfErr, IfSome, IfNone, All, length, map, slice_index_or};
+ghost use Rattle.std.specs.Prelude.{ℕ, List, [], true, false, Some, None, ◌≡◌, ◌≢◌, ◌<◌, ◌≤◌, ◌+◌, OnOk, IfOk, IfErr, IfSome, IfNone, All, length, map, slice_index_or, slice_set};
 ghost use Rattle.std.specs.FinMap as finite;
 ghost use Rattle.page_base.specs.declared.column.Column.{Column};
 ghost use Rattle.page_base.specs.declared.value.Value.{Value};
 ghost use Rattle.page_fmt.specs.Edits.{set_slot};
 ghost use Rattle.page_fmt.specs.Seen.{Looked};
-ghost use Rattle.page_fmt.specs.Spelling.{used};
+ghost use Rattle.page_fmt.specs.Spelling.{used, FitsPage};
 ghost use Rattle.plain_model.specs.Tables.{key_of};
 ghost use Rattle.row_fmt.specs.Rows.{row_bytes};
 ghost use Rattle.std.specs.List.{Any};
@@ -24,11 +24,12 @@ use row_fmt::encode;
 use std::alloc::Global;
 use table_walk::{SeenRefusal, key_of, read_row};
 
-// The leaves, and the place of each row by its key.
+// The leaves, the place of each row by its key, and which leaves were changed, in this order.
 #[derive(Drop)]
 pub(crate) struct Draft {
     leaves: Vec<LeafSlots>,
     places: KeyPlaces,
+    changed: Vec<usize>,
 }
 
 // Puts the places of the rows of a leaf that was read to others.
@@ -79,7 +80,11 @@ impl Draft {
             leaves.push(LeafSlots::read(alloc, seen, *i)?)?;
             add_places(alloc, cols, seen, *i, leaf, &mut places)?;
         }
-        Ok(Draft { leaves, places })
+        Ok(Draft {
+            leaves,
+            places,
+            changed: Vec::new(alloc),
+        })
     }
 
     // How many leaves there are.
@@ -89,34 +94,44 @@ impl Draft {
         self.leaves.len()
     }
 
+    // The leaves that were changed, in this order, some more than once.
+    pub(crate) fn changed(&self) -> &[usize] {
+        self.changed.as_slice()
+    }
+
     // The slots of a leaf.
     pub(crate) fn leaf(&self, leaf: usize) -> &[Bytes]
         requires { leaf < length self.now.leaves.items }
-        ensures { result.now ≡ slice_index_or self.now.leaves.items leaf [] }
+        ensures value { result.now ≡ slice_index_or self.now.leaves.items leaf [] }
+        ensures fits { FitsPage result.now }
     {
         self.leaves[leaf].as_slice()
     }
 
     // Cuts a key.
-    fn cut(&mut self, alloc: Global, key: &Row)
-        ensures draft { (cols : List Column) (leaves : List Leaf) → IsDraft cols leaves self.old.leaves.items self.old.places → IsDraft cols (cut cols key.now leaves) self.new.leaves.items self.new.places }
+    fn cut(&mut self, alloc: Global, key: &Row) -> Result<(), NoMemory>
+        ensures draft { OnOk result ((cols : List Column) (leaves : List Leaf) → IsDraft cols leaves self.old.leaves.items self.old.places → IsDraft cols (cut cols key.now leaves) self.new.leaves.items self.new.places) }
         ensures places { self.new.places ≡ finite.remove self.old.places key.now }
     {
         let Some(place) = self.places.take(key) else {
-            return;
+            return Ok(());
         };
-        if place.leaf < self.leaves.len() {
-            self.leaves[place.leaf].clear(alloc, place.slot);
+        if self.leaves.len() <= place.leaf {
+            return Ok(());
         }
+        self.changed.push(place.leaf)?;
+        self.leaves[place.leaf].clear(alloc, place.slot);
+        Ok(())
     }
 
     // Cuts all keys, in order.
-    pub(crate) fn cut_all(&mut self, alloc: Global, keys: &[Row])
-        ensures { (cols : List Column) (leaves : List Leaf) → IsDraft cols leaves self.old.leaves.items self.old.places → IsDraft cols (cut_keys cols keys.now leaves) self.new.leaves.items self.new.places }
+    pub(crate) fn cut_all(&mut self, alloc: Global, keys: &[Row]) -> Result<(), NoMemory>
+        ensures { OnOk result ((cols : List Column) (leaves : List Leaf) → IsDraft cols leaves self.old.leaves.items self.old.places → IsDraft cols (cut_keys cols keys.now leaves) self.new.leaves.items self.new.places) }
     {
         for key in keys {
-            self.cut(alloc, key);
+            self.cut(alloc, key)?;
         }
+        Ok(())
     }
 
     // Whether a row of so many bytes has room in the slot at a place.
@@ -162,6 +177,19 @@ impl Draft {
         Ok(Place { leaf, slot: 0 })
     }
 
+    // Writes a row to a place where it has room.
+    fn write(&mut self, place: Place, bytes: Bytes) -> Result<(), NoMemory>
+        requires leaf { place.leaf < length self.old.leaves.items }
+        requires slot { place.slot ≤ length (slice_index_or self.old.leaves.items place.leaf []) }
+        requires some { bytes ≢ [] }
+        requires room { used (set_slot (slice_index_or self.old.leaves.items place.leaf []) place.slot bytes) ≤ 8192 }
+        ensures leaves { OnOk result (self.new.leaves.items ≡ slice_set self.old.leaves.items place.leaf (set_slot (slice_index_or self.old.leaves.items place.leaf []) place.slot bytes)) }
+        ensures places { self.new.places ≡ self.old.places }
+    {
+        self.changed.push(place.leaf)?;
+        self.leaves[place.leaf].set(place.slot, bytes)
+    }
+
     // Adds a new row.
     fn add(&mut self, alloc: Global, key: Row, bytes: Bytes) -> Result<(), NoMemory>
         requires some { bytes ≢ [] }
@@ -170,7 +198,7 @@ impl Draft {
             → finite.get self.old.places key ≡ None → IsDraft cols (add row leaves) self.new.leaves.items self.new.places) }
     {
         let place = self.place_for(alloc, bytes.len())?;
-        self.leaves[place.leaf].set(place.slot, bytes)?;
+        self.write(place, bytes)?;
         self.places.put(key, place)
     }
 
@@ -182,9 +210,9 @@ impl Draft {
         let key = key_of(alloc, cols.as_slice(), row)?;
         let bytes = encode(alloc, row, cols)?;
         match self.room(&key, bytes.len()) {
-            Some(place) => self.leaves[place.leaf].set(place.slot, bytes),
+            Some(place) => self.write(place, bytes),
             None => {
-                self.cut(alloc, &key);
+                self.cut(alloc, &key)?;
                 self.add(alloc, key, bytes)
             }
         }

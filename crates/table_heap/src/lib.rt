@@ -12,6 +12,7 @@ mod reading;
 mod root_edits;
 #[cfg(test)]
 mod tests;
+mod turns;
 
 pub use law::placed_rows_are_the_rows;
 pub use planning::plan;

@@ -14,15 +14,14 @@ use crate::draft::Draft;
 use crate::growing::grown;
 use crate::layout::Heap;
 use crate::leaf::copied;
-use crate::root_edits::add_roots;
 use crate::reading::first;
+use crate::root_edits::add_roots;
 use page_base::{Columns, NoMemory, PageId, RowList};
 use page_fmt::Seen;
 use std::alloc::Global;
 use std::collections::BTreeMap;
 use table_walk::{
-    EditList, Plan, SeenRefusal, Spot, Visit, add_differences, is_leaf, page_index, place,
-    walk,
+    EditList, Plan, SeenRefusal, Spot, Visit, add_differences, is_leaf, page_index, place, walk,
 };
 
 // The places in `seen` of the leaves, or of the root pages.
@@ -98,7 +97,7 @@ pub fn plan(
     let roots = places_of(alloc, walked.done.as_slice(), false, &places, seen)?;
     let last = roots[roots.len() - 1];
     let mut draft = Draft::read(alloc, cols, seen, pages.as_slice())?;
-    draft.cut_all(alloc, cut.as_slice());
+    draft.cut_all(alloc, cut.as_slice())?;
     draft.put_all(alloc, cols, put.as_slice())?;
     let more = draft.len() - pages.len();
     let growth = grown(alloc, seen.page(last), usize::from(seen.slots(last)), more)?;

@@ -1,6 +1,5 @@
 use Rattle.std.proofs.Common.{◌≡◌, ◌∙◌, List, ℕ, [], length, get_or, set, ap, sym, subst}
 use Rattle.std.specs.FinMap as finite
-use Rattle.std.proofs.lemmas.List.{get_or_read}
 use Rattle.page_fmt.specs.Edits.{set_slot}
 use Rattle.row_fmt.specs.Rows.{row_bytes}
 use Rattle.table_walk.proofs.Exits.{on_ok}
@@ -15,12 +14,10 @@ returns c = on_ok c.put.result (λ put cols leaves row d may key bytes none.
     let old = c.args.self.now.leaves.items in
     let mid = c.place_for.new.self.leaves.items in
     let p = c.in_ok-place.place in
-    let was : c.index_mut.result.now ≡ get_or mid p.leaf [] = get_or_read mid p.leaf c.index_mut.result.now c.in_ok-place.ensures.place.there c.index_mut.ensures.value [] in
     let size : c.len.result ≡ length (row_bytes row) = c.len.ensures ∙ ap length bytes in
     let place : IsPlaceFor old mid (length (row_bytes row)) p = subst (λ n. IsPlaceFor old mid n p) size c.in_ok-place.ensures.place in
-    let made : c.set.new.self ≡ set_slot (get_or mid p.leaf []) p.slot (row_bytes row) = c.in_ok-set.ensures ∙ (λ i. set_slot (was i) p.slot (bytes i)) in
+    let made : c.write.new.self.leaves.items ≡ set mid p.leaf (set_slot (get_or mid p.leaf []) p.slot (row_bytes row)) = c.in_ok-write.ensures.leaves ∙ ap (λ (x : List ℕ). set mid p.leaf (set_slot (get_or mid p.leaf []) p.slot x)) bytes in
     let lacks = ap (finite.get c.args.self.now.places) (sym key) ∙ none in
-    let index : finite.insert c.place_for.new.self.places c.args.key p ≡ c.put.new.self = sym put in
-    subst (λ (m : Index). IsDraft cols (add row leaves) (set mid p.leaf c.set.new.self) m)
-    ((λ i. finite.insert (sym c.in_ok-place.ensures.places i) (sym key i) p) ∙ index)
-    (add_draft cols leaves old mid (set mid p.leaf c.set.new.self) c.args.self.now.places row p d may lacks place (ap (set mid p.leaf) made))) c.put.ensures.ok
+    subst (λ (m : Index). IsDraft cols (add row leaves) c.write.new.self.leaves.items m)
+    ((λ i. finite.insert (sym (c.in_ok-write.ensures.places ∙ c.in_ok-place.ensures.places) i) (sym key i) p) ∙ sym put)
+    (add_draft cols leaves old mid c.write.new.self.leaves.items c.args.self.now.places row p d may lacks place made)) c.put.ensures.ok

@@ -11,8 +11,13 @@ returns-in_default-clause-draft c = λ cols leaves d.
     subst (λ (m : Index). IsDraft cols (cut cols c.args.key.now leaves) c.args.self.now.leaves.items m) (sym c.take.ensures.new)
     (cut_draft_none cols leaves c.args.self.now.leaves.items c.args.self.now.places c.args.key.now d (sym c.take.ensures.place ∙ c.in_default.is))
 
-pub returns-then-place-len-clause-draft : goal.returns-then-place-len-clause-draft
-returns-then-place-len-clause-draft c = λ cols leaves d.
+pub returns-then-len-place-clause-draft : goal.returns-then-len-place-clause-draft
+returns-then-len-place-clause-draft c = λ cols leaves d.
+    let h = place_within cols leaves c.args.self.now.leaves.items c.args.self.now.places c.args.key.now c.in-Some.place d (sym c.take.ensures.place ∙ c.in-Some.is) in
+    absurd (omega (arith, h.0, c.len.ensures, c.args.self.now.leaves.ok.0, c.if-len-place.true))
+
+pub returns-clause-draft : goal.returns-clause-draft
+returns-clause-draft c = λ cols leaves d.
     let here = sym c.take.ensures.place ∙ c.in-Some.is in
     let h = place_within cols leaves c.args.self.now.leaves.items c.args.self.now.places c.args.key.now c.in-Some.place d here in
     let was : c.index_mut.result.now ≡ get_or c.args.self.now.leaves.items c.in-Some.place.leaf [] =
@@ -21,8 +26,3 @@ returns-then-place-len-clause-draft c = λ cols leaves d.
     subst (λ (m : Index). IsDraft cols (cut cols c.args.key.now leaves) (set c.args.self.now.leaves.items c.in-Some.place.leaf c.clear.new.self) m) (sym c.take.ensures.new)
     (cut_draft cols leaves c.args.self.now.leaves.items (set c.args.self.now.leaves.items c.in-Some.place.leaf c.clear.new.self) c.args.self.now.places c.args.key.now c.in-Some.place d here
     (ap (set c.args.self.now.leaves.items c.in-Some.place.leaf) (c.clear.ensures there ∙ ap (λ (s : List (List ℕ)). cleared s c.in-Some.place.slot) was)))
-
-pub returns-else-place-len-clause-draft : goal.returns-else-place-len-clause-draft
-returns-else-place-len-clause-draft c = λ cols leaves d.
-    let h = place_within cols leaves c.args.self.now.leaves.items c.args.self.now.places c.args.key.now c.in-Some.place d (sym c.take.ensures.place ∙ c.in-Some.is) in
-    absurd (omega (arith, h.0, c.len.ensures, c.args.self.now.leaves.ok.0, c.if-place-len.false))

@@ -12,7 +12,7 @@ loop-key-preserved c = λ cols leaves d.
     let k : Key = c.key-item.result in
     let more : take (c.loop-key.key-index + 1) keys ≡ take c.loop-key.key-index keys ++ k ∷ [] = take_more keys c.loop-key.key-index k c.loop-key-test.true ∙ ap (λ (x : Key). take c.loop-key.key-index keys ++ x ∷ []) (sym c.key-item.is) in
     subst (λ (ls : List Leaf). IsDraft cols ls c.cut.new.self.leaves.items c.cut.new.self.places) (sym (ap (λ (ks : List Key). cut_keys cols ks leaves) more ∙ cut_more cols (take c.loop-key.key-index keys) k leaves))
-    (c.cut.ensures.draft cols (cut_keys cols (take c.loop-key.key-index keys) leaves) (c.loop-key.invariant cols leaves d))
+    (c.in_ok-cut.ensures.draft cols (cut_keys cols (take c.loop-key.key-index keys) leaves) (c.loop-key.invariant cols leaves d))
 
 pub returns : goal.returns
 returns c = λ cols leaves d.
