@@ -53,7 +53,7 @@ numbering_more n xs ys zs h e = record {
 -- PAGES THAT ARE CLAIMED
 
 module _ (claimed : ℕ → PageId) where
-  claim_of : (n : ℕ) (p : PageId) → is_claimed claimed n p ≡ true → (i : ℕ) × (i < n) × (claimed i ≡ p)
+  pub claim_of : (n : ℕ) (p : PageId) → is_claimed claimed n p ≡ true → (i : ℕ) × (i < n) × (claimed i ≡ p)
   claim_of zero p e = let w : false ≡ true = e in cc
   claim_of (suc n) p e =
       let by : (b : Bool) → is_page (claimed n) p ≡ b → (b || is_claimed claimed n p) ≡ true → (i : ℕ) × (i < suc n) × (claimed i ≡ p) =
@@ -63,7 +63,7 @@ module _ (claimed : ℕ → PageId) where
       ] in
       by (is_page (claimed n) p) refl e
 
-  of_claim : (n i : ℕ) (p : PageId) → i < n → claimed i ≡ p → is_claimed claimed n p ≡ true
+  pub of_claim : (n i : ℕ) (p : PageId) → i < n → claimed i ≡ p → is_claimed claimed n p ≡ true
   of_claim zero i p h e = absurd (omega arith)
   of_claim (suc n) i p h e =
       elim (cases_eq i n) [
@@ -124,72 +124,74 @@ pub record IsGrown (at other : SlotsAt) (owns : PageId → Bool) (root : PageId)
   pub heap : IsHeapOf other root roots leaves
   pub owned : (p : PageId) → (also owns claimed n p ≡ true) ↔ Reaches (visits_of root roots leaves) p
 
+module _ (at : SlotsAt) (owns : PageId → Bool) (root : PageId) (claimed : ℕ → PageId) (n : ℕ) (roots leaves : List PageId) (more_roots more_leaves : List ℕ) (h : IsHeapOf at root roots leaves)
+    (owned : (p : PageId) → (owns p ≡ true) ↔ Reaches (visits_of root roots leaves) p) (free : AreFree claimed n at owns) (numbered : IsNumbering n (more_leaves ++ more_roots)) where
+  map_append : (xs ys : List ℕ) → map claimed (xs ++ ys) ≡ map claimed xs ++ map claimed ys
+  map_append [] ys = refl
+  map_append (x ∷ xs) ys = ap (λ ps. claimed x ∷ ps) (map_append xs ys)
+
+  parts : (p : PageId) → times p (roots ++ map claimed more_roots) + times p (leaves ++ map claimed more_leaves) ≡ times p roots + times p leaves + times p (map claimed (more_leaves ++ more_roots))
+  parts p = omega (arith, times_append p roots (map claimed more_roots), times_append p leaves (map claimed more_leaves), ap (times p) (map_append more_leaves more_roots), times_append p (map claimed more_leaves) (map claimed more_roots))
+
+  t : (p : PageId) → TimesClaimed claimed n p (more_leaves ++ more_roots)
+  t p = times_claimed claimed n p (more_leaves ++ more_roots) free.differ numbered
+
+  -- a claimed page isn't one of the old ones
+  apart : (p : PageId) → is_claimed claimed n p ≡ true → times p roots + times p leaves ≡ 0
+  apart p e =
+      let x = claim_of claimed n p e in
+      let unowned : owns p ≡ false = ap owns (sym x.2) ∙ free.unowned x.0 x.1 in
+      elim (cases_lt 0 (times p roots + times p leaves)) [
+        | inl here ↦ absurd (let w : true ≡ false = sym ((owned p).1 (reaches_of at root p roots leaves h (omega arith))) ∙ unowned in cc)
+        | inr none ↦ omega arith
+      ]
+
+  -- all pages differ
+  pub differ_grown : (p : PageId) → times p (roots ++ map claimed more_roots) + times p (leaves ++ map claimed more_leaves) ≤ 1
+  differ_grown p =
+      let by : (b : Bool) → is_claimed claimed n p ≡ b → times p (roots ++ map claimed more_roots) + times p (leaves ++ map claimed more_leaves) ≤ 1 =
+      elim [
+        | true ↦ λ e. omega (arith, parts p, apart p e, (t p).yes e)
+        | false ↦ λ e. omega (arith, parts p, h.differ p, (t p).not e)
+      ] in
+      by (is_claimed claimed n p) refl
+
+  -- a page that is owned afterwards is one of these
+  pub owned_there : (p : PageId) → also owns claimed n p ≡ true → 1 ≤ times p (roots ++ map claimed more_roots) + times p (leaves ++ map claimed more_leaves)
+  owned_there p e =
+      let by : (b : Bool) → owns p ≡ b → (b || is_claimed claimed n p) ≡ true → 1 ≤ times p (roots ++ map claimed more_roots) + times p (leaves ++ map claimed more_leaves) =
+      elim [
+        | true ↦ λ f g. omega (arith, parts p, of_reaches at root p roots leaves h ((owned p).0 f))
+        | false ↦ λ f g. omega (arith, parts p, (t p).yes g)
+      ] in
+      by (owns p) refl e
+
+  -- and the other way round
+  pub there_owned : (p : PageId) → 1 ≤ times p (roots ++ map claimed more_roots) + times p (leaves ++ map claimed more_leaves) → also owns claimed n p ≡ true
+  there_owned p some =
+      let by : (b c : Bool) → owns p ≡ b → is_claimed claimed n p ≡ c → (b || c) ≡ true =
+      elim [
+        | true ↦ λ c e f. refl
+        | false ↦ elim [
+          | true ↦ λ e f. refl
+          | false ↦ λ e f. elim (cases_lt 0 (times p roots + times p leaves)) [
+            | inl here ↦ let w : true ≡ false = sym ((owned p).1 (reaches_of at root p roots leaves h (omega arith))) ∙ e in cc
+            | inr none ↦ absurd (omega (arith, parts p, (t p).not f))
+          ]
+        ]
+      ] in
+      by (owns p) (is_claimed claimed n p) refl refl
+
 pub grown_heap : (at other : SlotsAt) (owns : PageId → Bool) (root : PageId) (claimed : ℕ → PageId) (n : ℕ) (roots leaves : List PageId) (more_roots more_leaves : List ℕ)
     → IsHeapOf at root roots leaves → ((p : PageId) → (owns p ≡ true) ↔ Reaches (visits_of root roots leaves) p) → AreFree claimed n at owns → IsNumbering n (more_leaves ++ more_roots)
     → Chain other (roots ++ map claimed more_roots) (leaves ++ map claimed more_leaves) → IsGrown at other owns root claimed n (roots ++ map claimed more_roots) (leaves ++ map claimed more_leaves)
 grown_heap at other owns root claimed n roots leaves more_roots more_leaves h owned free numbered chain = record {
   heap = heap;
   owned = λ p. (
-    λ e. reaches_of other root p (roots ++ map claimed more_roots) (leaves ++ map claimed more_leaves) heap (some p e),
-    λ x. is_owned p (of_reaches other root p (roots ++ map claimed more_roots) (leaves ++ map claimed more_leaves) heap x),
+    λ e. reaches_of other root p (roots ++ map claimed more_roots) (leaves ++ map claimed more_leaves) heap (owned_there at owns root claimed n roots leaves more_roots more_leaves h owned free numbered p e),
+    λ x. there_owned at owns root claimed n roots leaves more_roots more_leaves h owned free numbered p (of_reaches other root p (roots ++ map claimed more_roots) (leaves ++ map claimed more_leaves) heap x),
   );
 }
   where
-    claims : List ℕ
-    claims = more_leaves ++ more_roots
-
-    map_append : (xs ys : List ℕ) → map claimed (xs ++ ys) ≡ map claimed xs ++ map claimed ys
-    map_append [] ys = refl
-    map_append (x ∷ xs) ys = ap (λ ps. claimed x ∷ ps) (map_append xs ys)
-
-    parts : (p : PageId) → times p (roots ++ map claimed more_roots) + times p (leaves ++ map claimed more_leaves) ≡ times p roots + times p leaves + times p (map claimed (more_leaves ++ more_roots))
-    parts p = omega (arith, times_append p roots (map claimed more_roots), times_append p leaves (map claimed more_leaves), ap (times p) (map_append more_leaves more_roots), times_append p (map claimed more_leaves) (map claimed more_roots))
-
-    t : (p : PageId) → TimesClaimed claimed n p (more_leaves ++ more_roots)
-    t p = times_claimed claimed n p (more_leaves ++ more_roots) free.differ numbered
-
-    -- a claimed page isn't one of the old ones
-    apart : (p : PageId) → is_claimed claimed n p ≡ true → times p roots + times p leaves ≡ 0
-    apart p e =
-        let x = claim_of claimed n p e in
-        let unowned : owns p ≡ false = ap owns (sym x.2) ∙ free.unowned x.0 x.1 in
-        elim (cases_lt 0 (times p roots + times p leaves)) [
-          | inl here ↦ absurd (let w : true ≡ false = sym ((owned p).1 (reaches_of at root p roots leaves h (omega arith))) ∙ unowned in cc)
-          | inr none ↦ omega arith
-        ]
-
-    differ : (p : PageId) → times p (roots ++ map claimed more_roots) + times p (leaves ++ map claimed more_leaves) ≤ 1
-    differ p =
-        let by : (b : Bool) → is_claimed claimed n p ≡ b → times p (roots ++ map claimed more_roots) + times p (leaves ++ map claimed more_leaves) ≤ 1 =
-        elim [
-          | true ↦ λ e. omega (arith, parts p, apart p e, (t p).yes e)
-          | false ↦ λ e. omega (arith, parts p, h.differ p, (t p).not e)
-        ] in
-        by (is_claimed claimed n p) refl
-
     heap : IsHeapOf other root (roots ++ map claimed more_roots) (leaves ++ map claimed more_leaves)
-    heap = record { more = h.more ++ map claimed more_roots; begins = ap (λ rs. rs ++ map claimed more_roots) h.begins; chain = chain; differ = differ }
-
-    some : (p : PageId) → also owns claimed n p ≡ true → 1 ≤ times p (roots ++ map claimed more_roots) + times p (leaves ++ map claimed more_leaves)
-    some p e =
-        let by : (b : Bool) → owns p ≡ b → (b || is_claimed claimed n p) ≡ true → 1 ≤ times p (roots ++ map claimed more_roots) + times p (leaves ++ map claimed more_leaves) =
-        elim [
-          | true ↦ λ f g. omega (arith, parts p, of_reaches at root p roots leaves h ((owned p).0 f))
-          | false ↦ λ f g. omega (arith, parts p, (t p).yes g)
-        ] in
-        by (owns p) refl e
-
-    is_owned : (p : PageId) → 1 ≤ times p (roots ++ map claimed more_roots) + times p (leaves ++ map claimed more_leaves) → also owns claimed n p ≡ true
-    is_owned p some =
-        let by : (b c : Bool) → owns p ≡ b → is_claimed claimed n p ≡ c → (b || c) ≡ true =
-        elim [
-          | true ↦ λ c e f. refl
-          | false ↦ elim [
-            | true ↦ λ e f. refl
-            | false ↦ λ e f. elim (cases_lt 0 (times p roots + times p leaves)) [
-              | inl here ↦ let w : true ≡ false = sym ((owned p).1 (reaches_of at root p roots leaves h (omega arith))) ∙ e in cc
-              | inr none ↦ absurd (omega (arith, parts p, (t p).not f))
-            ]
-          ]
-        ] in
-        by (owns p) (is_claimed claimed n p) refl refl
+    heap = record { more = h.more ++ map claimed more_roots; begins = ap (λ rs. rs ++ map claimed more_roots) h.begins; chain = chain; differ = differ_grown at owns root claimed n roots leaves more_roots more_leaves h owned free numbered }
