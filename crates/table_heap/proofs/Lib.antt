@@ -1,5 +1,6 @@
 pub mod ApartLemmas
 pub mod DraftLemmas
+pub mod EmissionLemmas
 pub mod GrowChain
 pub mod GrowEdits
 pub mod GrowLemmas
@@ -11,7 +12,7 @@ pub mod HeapLemmas
 pub mod LeafLemmas
 pub mod PlaceLemmas
 pub mod PutLemmas
-pub mod ShapeLemmas
 pub mod ReadLemmas
+pub mod ShapeLemmas
 pub mod SlotsLemmas
 pub mod TurnLemmas

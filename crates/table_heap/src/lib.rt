@@ -2,12 +2,12 @@
 #![tactic(auto)]
 
 mod draft;
+mod emission;
 mod growing;
 mod law;
 mod layout;
 mod leaf;
 mod places;
-mod planning;
 mod reading;
 mod root_edits;
 #[cfg(test)]
@@ -15,5 +15,4 @@ mod tests;
 mod turns;
 
 pub use law::placed_rows_are_the_rows;
-pub use planning::plan;
 pub use reading::{rows, wants};
