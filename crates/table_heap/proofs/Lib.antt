@@ -11,6 +11,7 @@ pub mod GrowingLemmas
 pub mod HeapLemmas
 pub mod LeafLemmas
 pub mod PlaceLemmas
+pub mod PlanningLemmas
 pub mod PutLemmas
 pub mod ReadLemmas
 pub mod ShapeLemmas

@@ -10,8 +10,8 @@ use page_base::{ListOf, NoMemory, PageId};
 use std::alloc::Global;
 use table_walk::Spot;
 
-// The most slots that a root page has.
-const SLOTS: usize = 1001;
+/// The most slots that a root page has.
+pub(crate) const SLOTS: usize = 1001;
 
 /// A root page that has so many slots, none where it is claimed, and is to name more: leaves by their claims, and perhaps
 /// the next root page.

@@ -8,6 +8,7 @@ mod law;
 mod layout;
 mod leaf;
 mod places;
+mod planning;
 mod reading;
 mod root_edits;
 #[cfg(test)]
@@ -15,4 +16,5 @@ mod tests;
 mod turns;
 
 pub use law::placed_rows_are_the_rows;
+pub use planning::plan;
 pub use reading::{rows, wants};
