@@ -1,6 +1,7 @@
 pub mod ApartLemmas
 pub mod DraftLemmas
 pub mod EmissionLemmas
+pub mod EmittedLemmas
 pub mod GrowChain
 pub mod GrowEdits
 pub mod GrowLemmas
@@ -9,6 +10,7 @@ pub mod GrowRows
 pub mod GrowTable
 pub mod GrowingLemmas
 pub mod HeapLemmas
+pub mod InTurn
 pub mod LeafLemmas
 pub mod PlaceLemmas
 pub mod PlanningLemmas
