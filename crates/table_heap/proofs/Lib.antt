@@ -14,6 +14,7 @@ pub mod InTurn
 pub mod LeafLemmas
 pub mod PlaceLemmas
 pub mod PlanningLemmas
+pub mod PromiseLemmas
 pub mod PutLemmas
 pub mod ReadLemmas
 pub mod ShapeLemmas
