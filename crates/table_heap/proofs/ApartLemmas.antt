@@ -1,15 +1,14 @@
 -- Leaves whose rows have different keys: no two of their places have one key.
-use Rattle.std.proofs.Common.{refl, ◌≡◌, ◌≢◌, ℕ, zero, suc, ◌+◌, ◌<◌, Bool, true, false, cond, ◌||◌, List, [], ◌∷◌, ◌++◌, length, get_or, ap, sym, ◌∙◌, subst, arith}
-use Rattle.std.specs.Prelude.{Option, Some, None, All}
+use Rattle.std.proofs.Common.{refl, ◌≡◌, ℕ, zero, suc, Bool, true, false, ◌||◌, List, [], ◌∷◌, ◌++◌, get_or, ap, sym, ◌∙◌, subst, arith}
+use Rattle.std.specs.Prelude.{Some, None, All}
 use Rattle.std.specs.FinMap as finite
 use Rattle.std.proofs.lemmas.List.Elements.{All-head, All-tail}
 use Rattle.page_base.specs.declared.column.Column.{Column}
 use Rattle.plain_model.specs.Tables.{Rows, key_of}
 use Rattle.table_walk.proofs.RowsLemmas.{Key, same_key, ties, itself, no_Some, same_Some}
-use Rattle.table_heap.specs.declared.places.Place.{Place}
 use Rattle.table_heap.specs.Leaves.{Leaf, ByKeys, rows_in, all_rows}
 use Rattle.table_heap.specs.Planning.{MayPut}
-use Rattle.table_heap.specs.Places.{IsKeyAt, AreApart, AreRows, row_at}
+use Rattle.table_heap.specs.Places.{AreApart, AreRows, row_at}
 use Rattle.table_heap.proofs.LeafLemmas.{is_there, is_there-append, not_there}
 
 abbrev Row : Type 0

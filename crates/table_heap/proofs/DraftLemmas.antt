@@ -3,10 +3,9 @@ use Rattle.std.proofs.Common.{refl, ◌≡◌, ◌≢◌, ℕ, zero, suc, ◌+�
 use Rattle.std.specs.Prelude.{Option, Some, None}
 use Rattle.std.specs.FinMap as finite
 use Rattle.std.specs.FinMap.{get-insert, get-remove, get-empty}
-use Rattle.std.proofs.lemmas.Bool.{cases_eq, lt-leb, le-leb}
+use Rattle.std.proofs.lemmas.Bool.{cases_eq}
 use Rattle.std.proofs.lemmas.List.{map-set, length-map, map-append}
 use Rattle.page_base.specs.declared.column.Column.{Column}
-use Rattle.page_base.specs.declared.value.Value.{Value}
 use Rattle.page_base.specs.Order.{key_cmp}
 use Rattle.page_base.proofs.Ordered.{key_cmp_total}
 use Rattle.page_fmt.specs.Edits.{set_slot, cleared}
@@ -21,7 +20,7 @@ use Rattle.table_heap.specs.declared.places.Place.{Place}
 use Rattle.table_heap.specs.Leaves.{Leaf, cell, slots_of, fits, trimmed, cut, cut_keys, has_room, swap, added, add, put, put_rows}
 use Rattle.table_heap.specs.Planning.{MayPut}
 use Rattle.table_heap.specs.Places.{IsFirstEmpty, IsKeyAt, IsDraft, IsPlaceFor, LacksRoom, AreRows, AreApart, IsSoFar, IsBefore, Index, row_at}
-use Rattle.table_heap.proofs.PlaceLemmas.{Row, Updates, IsFull, OnlyAt, NoneAt, AddsAt, cell_at, slots_set, slots_trimmed, trimmed_at, within, cut_is, cut_none, cut_updates, swap_is, swap_updates, room_is, room_none, added_is, add_is, add_last, set_leaf, leaf_within, more_at, fits_true, fits_false}
+use Rattle.table_heap.proofs.PlaceLemmas.{Row, Updates, IsFull, OnlyAt, NoneAt, AddsAt, cell_at, slots_set, slots_trimmed, within, cut_is, cut_none, cut_updates, swap_is, swap_updates, room_is, room_none, added_is, add_is, add_last, set_leaf, leaf_within, more_at, fits_true, fits_false}
 use Rattle.table_heap.proofs.SlotsLemmas.{set_within}
 
 -- THE INDEX

@@ -1,7 +1,6 @@
 -- The edits of pages in an order, and what they make of the pages.
-use Rattle.std.proofs.Common.{refl, ◌≡◌, ◌≢◌, ℕ, zero, suc, ◌+◌, ◌-◌, ◌<◌, ◌≤◌, List, [], ◌∷◌, ◌++◌, length, get_or, map, take, ap, sym, ◌∙◌, subst, arith, append_assoc, length-append}
+use Rattle.std.proofs.Common.{refl, ◌≡◌, ℕ, zero, suc, ◌+◌, ◌-◌, ◌<◌, ◌≤◌, List, [], ◌∷◌, ◌++◌, length, get_or, map, take, ap, sym, ◌∙◌, subst, arith, append_assoc, length-append}
 use Rattle.std.proofs.lemmas.List.{append-nil, get_or_append_left, get_or-append_right, get_or_past, get_or_default, take_more}
-use Rattle.page_base.specs.declared.numbers.PageId.{PageId}
 use Rattle.page_fmt.specs.Seen.{Looked}
 use Rattle.table_walk.specs.declared.plan.Edit.{Edit}
 use Rattle.table_walk.specs.declared.plan.Spot.{Spot}

@@ -1,10 +1,10 @@
 -- After the edits of a plan each page of the heap has the slots that it is to have.
-use Rattle.std.proofs.Common.{refl, ◌≡◌, ◌≢◌, ℕ, zero, suc, ◌+◌, ◌-◌, ◌<◌, ◌≤◌, List, [], ◌∷◌, ◌++◌, length, get_or, map, take, ap, sym, ◌∙◌, subst, arith, Bool, true, append_assoc, length-append, inl, inr}
-use Rattle.std.specs.Prelude.{Option, None, Some, ◌↔◌}
+use Rattle.std.proofs.Common.{refl, ◌≡◌, ◌≢◌, ℕ, zero, suc, ◌+◌, ◌-◌, ◌<◌, ◌≤◌, List, [], ◌∷◌, ◌++◌, length, get_or, map, take, ap, sym, ◌∙◌, subst, arith, Bool, true, length-append, inl, inr}
+use Rattle.std.specs.Prelude.{Some, ◌↔◌}
 use Rattle.std.specs.List.{All}
 use Rattle.std.specs.Option.{option_to_list}
 use Rattle.std.proofs.lemmas.Bool.{cases_lt, cases_eq}
-use Rattle.std.proofs.lemmas.List.{get_or_append_left, get_or-append_right, get_or_past, get_or_default}
+use Rattle.std.proofs.lemmas.List.{get_or_append_left, get_or-append_right, get_or_past}
 use Rattle.std.proofs.lemmas.List.Elements.{All-nil, All-cons}
 use Rattle.page_base.specs.declared.numbers.PageId.{PageId}
 use Rattle.page_fmt.specs.Seen.{SlotsAt}
@@ -12,12 +12,12 @@ use Rattle.table_walk.specs.declared.plan.Edit.{Edit}
 use Rattle.table_walk.specs.declared.plan.Spot.{Spot}
 use Rattle.table_walk.specs.declared.plan.Spot.TheVariants.{Old, New}
 use Rattle.table_walk.specs.Addresses.{IsTarget}
-use Rattle.table_walk.specs.Plans.{place, after, Go, also, AreFree, AreWithin}
+use Rattle.table_walk.specs.Plans.{place, after, Go, AreFree, AreWithin}
 use Rattle.table_walk.specs.Walk.{Reaches}
 use Rattle.table_heap.specs.declared.growing.RootPage.{RootPage}
 use Rattle.table_heap.specs.Emission.{leaf_spots, Makes, MakesAll}
-use Rattle.table_heap.specs.Growth.{count_of, IsNumbering, root_made, root_edits, slots_made, IsChain, root_claims}
-use Rattle.table_heap.specs.Shape.{IsRootPage, Chain, visits_of, times, IsHeapOf}
+use Rattle.table_heap.specs.Growth.{count_of, IsNumbering, root_made, root_edits, IsChain, root_claims}
+use Rattle.table_heap.specs.Shape.{Chain, visits_of, times, IsHeapOf}
 use Rattle.table_heap.proofs.EmissionLemmas.{map_length, map_at}
 use Rattle.table_heap.proofs.GrowChain.{NamedBefore, named_before, AreTargets}
 use Rattle.table_heap.proofs.GrowEdits.{Turns, turns_plain}
@@ -239,8 +239,8 @@ module _ (at : SlotsAt) (owns : PageId → Bool) (root : PageId) (claimed : ℕ 
     kept = λ p some ne. sym (done.others p (λ i there e. absurd (not_there p some ne i there e)));
     slots = same_list (map (after claimed at edits) leaf_pages) news [] (map_length (after claimed at edits) leaf_pages ∙ leaf_count)
         (λ k lt.
-            let within : k < length news = omega (arith, map_length (after claimed at edits) leaf_pages, leaf_count) in
-            map_at (after claimed at edits) leaf_pages k root [] (omega (arith, leaf_count)) ∙ ap (after claimed at edits) (sym (page_leaf k within)) ∙ done.here k (in_order k (omega arith)) ∙ new_leaf k within);
+        let within : k < length news = omega (arith, map_length (after claimed at edits) leaf_pages, leaf_count) in
+        map_at (after claimed at edits) leaf_pages k root [] (omega (arith, leaf_count)) ∙ ap (after claimed at edits) (sym (page_leaf k within)) ∙ done.here k (in_order k (omega arith)) ∙ new_leaf k within);
   }
     where
       not_there : (p : PageId) → 1 ≤ times p roots → p ≢ last → (i : ℕ) → 1 ≤ count_of i order → page i ≡ p → ⊥

@@ -1,22 +1,19 @@
 -- The chain of root pages after they name more leaves.
-use Rattle.std.proofs.Common.{refl, ◌≡◌, ◌≢◌, ℕ, zero, suc, ◌+◌, ◌<◌, ◌≤◌, List, [], ◌∷◌, ◌++◌, length, map, take, drop, max, ap, sym, ◌∙◌, subst, arith, true, Option, None, Some, append_assoc, length-append, length-take, length-drop, inl, inr}
-use Rattle.std.specs.Prelude.{◌⊎◌}
+use Rattle.std.proofs.Common.{refl, ◌≡◌, ℕ, suc, ◌+◌, ◌≤◌, List, [], ◌∷◌, ◌++◌, length, map, take, drop, max, ap, sym, ◌∙◌, subst, arith, true, None, Some, append_assoc, length-append, length-take}
 use Rattle.std.specs.List.{All}
 use Rattle.std.specs.Option.{option_to_list}
 use Rattle.std.proofs.lemmas.List.{append-nil, take_all, drop_all, take-append-drop, take-append-le, drop-append-le, take_at, drop_at}
 use Rattle.std.proofs.lemmas.List.Elements.{All-head, All-tail}
 use Rattle.page_base.specs.declared.numbers.PageId.{PageId}
 use Rattle.page_fmt.specs.Seen.{SlotsAt}
-use Rattle.table_walk.specs.declared.plan.Spot.{Spot}
-use Rattle.table_walk.specs.declared.plan.Spot.TheVariants.{Old, New}
 use Rattle.table_walk.specs.Addresses.{address, page_at, names_none, IsTarget}
 use Rattle.table_walk.specs.Plans.{place}
 use Rattle.table_walk.proofs.AddressLemmas.{page_at-address}
-use Rattle.table_heap.specs.Growth.{count_of, slot_0, root_made, slots_made, IsChain, leaf_claims, root_claims}
+use Rattle.table_heap.specs.Growth.{count_of, slot_0, root_made, IsChain, leaf_claims, root_claims}
 use Rattle.table_heap.specs.declared.growing.RootPage.{RootPage}
-use Rattle.table_heap.specs.Shape.{Name, NamesNext, IsRootPage, Chain, times}
+use Rattle.table_heap.specs.Shape.{Name, IsRootPage, Chain, times}
 use Rattle.table_heap.proofs.GrowLemmas.{count_append, count_here}
-use Rattle.table_heap.proofs.ShapeLemmas.{Name-length, one_here}
+use Rattle.table_heap.proofs.ShapeLemmas.{one_here}
 
 Name_append : (xs ys : List (List ℕ)) (ps qs : List PageId) → Name xs ps → Name ys qs → Name (xs ++ ys) (ps ++ qs)
 Name_append [] ys [] qs n m = m

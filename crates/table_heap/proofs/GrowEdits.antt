@@ -1,9 +1,8 @@
 -- Edits of one page, and of several: they go in turn, in whatever order the pages come.
-use Rattle.std.proofs.Common.{refl, ◌≡◌, ◌≢◌, ℕ, zero, suc, ◌+◌, ◌*◌, ◌<◌, ◌≤◌, List, [], ◌∷◌, ◌++◌, length, get_or, map, ap, sym, ◌∙◌, subst, arith, Bool, true, false, cond, append_assoc, length-append, inl, inr}
-use Rattle.std.specs.Prelude.{Option, None, Some}
+use Rattle.std.proofs.Common.{refl, ◌≡◌, ◌≢◌, ℕ, zero, suc, ◌<◌, ◌≤◌, List, [], ◌∷◌, ◌++◌, length, get_or, ap, sym, ◌∙◌, subst, arith, Bool, true, false, cond}
+use Rattle.std.specs.Prelude.{None}
 use Rattle.std.specs.List.{All}
-use Rattle.std.proofs.lemmas.List.{append-nil}
-use Rattle.std.proofs.lemmas.List.Elements.{All-nil, All-cons, All-head, All-tail}
+use Rattle.std.proofs.lemmas.List.Elements.{All-cons, All-head, All-tail}
 use Rattle.page_base.specs.declared.numbers.PageId.{PageId}
 use Rattle.page_base.specs.Pages.{set_at, is_page}
 use Rattle.page_fmt.specs.Edits.{edited, slot_at}
@@ -12,10 +11,10 @@ use Rattle.page_fmt.specs.Spelling.{used}
 use Rattle.page_fmt.proofs.SeenLemmas.{is_page-same, is_page-true, is_page-other}
 use Rattle.table_walk.specs.declared.plan.Edit.{Edit}
 use Rattle.table_walk.specs.declared.plan.Spot.{Spot}
-use Rattle.table_walk.specs.Differences.{ArePlain, SlotFits, PageGo, made_of, MakesPage}
-use Rattle.table_walk.specs.Plans.{place, named, bytes_of, slots_after, changed, after, Fits, Go, also, AreWithin}
+use Rattle.table_walk.specs.Differences.{ArePlain, PageGo, made_of, MakesPage}
+use Rattle.table_walk.specs.Plans.{place, named, bytes_of, slots_after, changed, after, Go, also, AreWithin}
 use Rattle.table_heap.specs.Shape.{times}
-use Rattle.table_heap.proofs.ShapeLemmas.{one_here, none_here, page_cases}
+use Rattle.table_heap.proofs.ShapeLemmas.{one_here}
 
 abbrev Slots : Type 0
 Slots = List (List ℕ)

@@ -1,6 +1,6 @@
 -- A heap whose root pages name more leaves than before: its pages are the old ones and those that are claimed.
 use Rattle.std.proofs.Common.{refl, ◌≡◌, ◌≢◌, ℕ, zero, suc, ◌+◌, ◌<◌, ◌≤◌, List, [], ◌∷◌, ◌++◌, map, ap, sym, ◌∙◌, subst, arith, Bool, true, false, cond, ◌||◌, ◌==◌, inl, inr, eq-eqb}
-use Rattle.std.specs.Prelude.{◌⊎◌, ◌↔◌}
+use Rattle.std.specs.Prelude.{◌↔◌}
 use Rattle.std.proofs.lemmas.Bool.{cases_lt, cases_eq, ne_eqb}
 use Rattle.page_base.specs.declared.numbers.PageId.{PageId}
 use Rattle.page_base.specs.Pages.{is_page}
@@ -10,7 +10,7 @@ use Rattle.table_walk.specs.Plans.{is_claimed, also, AreFree}
 use Rattle.table_walk.specs.Walk.{Reaches}
 use Rattle.table_heap.specs.Growth.{count_of, IsNumbering}
 use Rattle.table_heap.specs.Shape.{Chain, visits_of, times, IsHeapOf}
-use Rattle.table_heap.proofs.ShapeLemmas.{times_append, one_here, none_here, page_cases, reaches_of, of_reaches}
+use Rattle.table_heap.proofs.ShapeLemmas.{times_append, one_here, none_here, reaches_of, of_reaches}
 
 -- NUMBERS, COUNTED
 

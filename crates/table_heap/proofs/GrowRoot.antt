@@ -1,5 +1,5 @@
 -- The edits of a root page that gets leaves go in turn, and make its new slots.
-use Rattle.std.proofs.Common.{refl, ◌≡◌, ◌≢◌, ℕ, zero, suc, ◌+◌, ◌*◌, ◌/◌, ◌%◌, ◌<◌, ◌≤◌, List, [], ◌∷◌, ◌++◌, length, get_or, map, drop, max, ap, sym, ◌∙◌, subst, arith, Bool, true, false, cond, ◌==◌, ◌&&◌, append_assoc, length-append, eqb-true}
+use Rattle.std.proofs.Common.{refl, ◌≡◌, ◌≢◌, ℕ, zero, suc, ◌+◌, ◌*◌, ◌/◌, ◌%◌, ◌≤◌, List, [], ◌∷◌, ◌++◌, length, map, drop, max, ap, sym, ◌∙◌, subst, arith, Bool, true, false, cond, ◌==◌, ◌&&◌, append_assoc, length-append, eqb-true}
 use Rattle.std.specs.Prelude.{Option, None, Some, slice_index}
 use Rattle.std.proofs.lemmas.List.{append-nil, get_or_past}
 use Rattle.page_base.specs.declared.numbers.PageId.{PageId}
@@ -14,7 +14,7 @@ use Rattle.table_heap.specs.Growth.{slot_0, root_made, slots_made, front_edits, 
 use Rattle.table_heap.specs.declared.growing.RootPage.{RootPage}
 use Rattle.table_heap.specs.Shape.{Name}
 use Rattle.table_heap.proofs.GrowChain.{NamedBefore}
-use Rattle.table_heap.proofs.GrowEdits.{FitsOn, Turns, turns_append}
+use Rattle.table_heap.proofs.GrowEdits.{Turns, turns_append}
 use Rattle.table_heap.proofs.ShapeLemmas.{Name-length, named_not_none}
 
 -- ADDRESSES

@@ -1,18 +1,16 @@
 -- The rows of the leaves of a heap, from their slots and back.
-use Rattle.std.proofs.Common.{refl, ◌≡◌, ◌≢◌, ℕ, zero, suc, ◌+◌, ◌/◌, ◌<◌, ◌≤◌, List, [], ◌∷◌, ◌++◌, length, drop, map, ap, sym, ◌∙◌, subst, arith, Bool, true, false, cond, Option, None, Some, append_assoc}
+use Rattle.std.proofs.Common.{refl, ◌≡◌, ◌≢◌, ℕ, zero, suc, ◌≤◌, List, [], ◌∷◌, ◌++◌, length, drop, map, ap, sym, ◌∙◌, subst, arith, Bool, true, false, cond, Option, None, Some}
 use Rattle.std.specs.List.{All, concat, flat_map}
-use Rattle.std.specs.FinMap as finite
-use Rattle.std.proofs.lemmas.List.Elements.{All-nil, All-cons, All-head, All-tail, All-append}
+use Rattle.std.proofs.lemmas.List.Elements.{All-nil, All-cons, All-head, All-tail}
 use Rattle.page_base.specs.declared.column.Column.{Column}
 use Rattle.page_base.specs.declared.numbers.PageId.{PageId}
 use Rattle.page_base.specs.declared.value.Value.{Value}
 use Rattle.page_fmt.specs.Seen.{SlotsAt}
-use Rattle.plain_model.specs.Tables.{Rows, key_of}
-use Rattle.row_fmt.specs.Rows.{IsRow, row_bytes, row_fields, bit_fields, null_bytes, is_null, value_field}
+use Rattle.plain_model.specs.Tables.{Rows}
+use Rattle.row_fmt.specs.Rows.{row_bytes, bit_fields, null_bytes, is_null, value_field}
 use Rattle.row_fmt.proofs.RowLemmas.{one_row}
 use Rattle.table_walk.specs.declared.visit.Visit.{Visit}
 use Rattle.table_walk.specs.Tables.{is_leaf, full, cells, Gathers}
-use Rattle.table_walk.specs.Walk.{IsWalk}
 use Rattle.table_walk.proofs.WalkLemmas.{walks-one}
 use Rattle.table_heap.specs.Heap.{heap_kids, first, RowsAt}
 use Rattle.table_heap.specs.Leaves.{Leaf, cell, slots_of, rows_in, all_rows, ByKeys}

@@ -1,5 +1,5 @@
 -- A heap after its leaves got other slots, and leaves and root pages were added at its end.
-use Rattle.std.proofs.Common.{refl, ◌≡◌, ◌≢◌, ℕ, suc, ◌+◌, ◌<◌, ◌≤◌, List, [], ◌∷◌, ◌++◌, length, map, take, drop, max, ap, sym, ◌∙◌, subst, arith, Bool, true, append_assoc, length-take, inl, inr}
+use Rattle.std.proofs.Common.{refl, ◌≡◌, ◌≢◌, ℕ, ◌+◌, ◌<◌, ◌≤◌, List, [], ◌∷◌, ◌++◌, length, map, take, drop, ap, sym, ◌∙◌, subst, arith, Bool, true, append_assoc, length-take, inl, inr}
 use Rattle.std.specs.Prelude.{◌↔◌}
 use Rattle.std.specs.List.{All}
 use Rattle.std.proofs.lemmas.Bool.{cases_lt}
@@ -8,7 +8,7 @@ use Rattle.page_base.specs.declared.numbers.PageId.{PageId}
 use Rattle.page_fmt.specs.Seen.{SlotsAt}
 use Rattle.plain_model.specs.Tables.{Rows}
 use Rattle.row_fmt.specs.Rows.{row_bytes}
-use Rattle.table_walk.specs.declared.plan.Spot.TheVariants.{Old, New}
+use Rattle.table_walk.specs.declared.plan.Spot.TheVariants.{Old}
 use Rattle.table_walk.specs.declared.visit.Visit.{Visit}
 use Rattle.table_walk.specs.Addresses.{names_none}
 use Rattle.table_walk.specs.Plans.{place, also, AreFree}
@@ -20,7 +20,7 @@ use Rattle.table_heap.specs.Heap.{heap_kids, first, RowsAt}
 use Rattle.table_heap.specs.Leaves.{Leaf, slots_of, all_rows, ByKeys}
 use Rattle.table_heap.specs.Planning.{MayPut, HasLeaves}
 use Rattle.table_heap.specs.Shape.{IsRootPage, Chain, visits_of, times, leaves_in, roots_in, IsHeapOf}
-use Rattle.table_heap.proofs.GrowChain.{AreTargets, named_before, chain_made, chain_grows}
+use Rattle.table_heap.proofs.GrowChain.{named_before, chain_made, chain_grows}
 use Rattle.table_heap.proofs.GrowLemmas.{count_append, IsGrown, grown_heap}
 use Rattle.table_heap.proofs.GrowRows.{all_cells, leaf_slots-map, cells-leaves, cells_made, gathers_rows}
 use Rattle.table_heap.proofs.ShapeLemmas.{IsWalkOf, heap_of, walk_of, leaves_in-visits, roots_in-visits, times_append, one_here, Name-length}

@@ -1,6 +1,6 @@
 -- Where rows stand in leaves after one is cut, takes another's slot, or is added.
-use Rattle.std.proofs.Common.{refl, ◌≡◌, ◌≢◌, ℕ, zero, suc, ◌+◌, ◌<◌, ◌≤◌, Bool, true, false, cond, ◌||◌, List, [], ◌∷◌, ◌++◌, length, get_or, set, map, ap, sym, ◌∙◌, subst, arith, inl, inr, ◌⊎◌, nat_lt}
-use Rattle.std.specs.Prelude.{Option, Some, None, nat_le}
+use Rattle.std.proofs.Common.{refl, ◌≡◌, ◌≢◌, ℕ, zero, suc, ◌<◌, ◌≤◌, Bool, true, false, cond, ◌||◌, List, [], ◌∷◌, ◌++◌, length, get_or, set, ap, sym, ◌∙◌, subst, arith, inl, inr, ◌⊎◌}
+use Rattle.std.specs.Prelude.{Option, Some, None}
 use Rattle.std.proofs.lemmas.Bool.{cases_eq, le-leb, lt-leb}
 use Rattle.page_base.specs.declared.column.Column.{Column}
 use Rattle.page_base.specs.declared.value.Value.{Value}
@@ -9,7 +9,7 @@ use Rattle.page_fmt.specs.Edits as slots
 use Rattle.page_fmt.specs.Spelling.{used}
 use Rattle.plain_model.specs.Tables.{key_of}
 use Rattle.row_fmt.specs.Rows.{row_bytes}
-use Rattle.table_walk.proofs.RowsLemmas.{Key, same_key, ties, itself, no_Some, same_Some}
+use Rattle.table_walk.proofs.RowsLemmas.{same_key, ties, itself, no_Some}
 use Rattle.table_heap.specs.Leaves.{Leaf, cell, slots_of, fits, has, holds, before, trimmed, changed, cut, has_room, swap, added, add}
 use Rattle.table_heap.specs.Places.{IsFirstEmpty, row_at}
 

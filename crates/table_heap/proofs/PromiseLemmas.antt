@@ -1,5 +1,5 @@
 -- What was planned is what a plan promises.
-use Rattle.std.proofs.Common.{refl, ◌≡◌, ◌≢◌, ℕ, ◌+◌, ◌-◌, ◌<◌, ◌≤◌, List, [], ◌∷◌, ◌++◌, length, map, ap, sym, ◌∙◌, subst, arith, Bool, true, false, cond, inl, inr}
+use Rattle.std.proofs.Common.{refl, ◌≡◌, ℕ, ◌+◌, ◌<◌, ◌≤◌, List, [], ◌∷◌, ◌++◌, length, map, ap, sym, ◌∙◌, subst, arith, Bool, true, false, cond, inl, inr}
 use Rattle.std.specs.Prelude.{◌↔◌}
 use Rattle.std.specs.List.{All}
 use Rattle.std.proofs.lemmas.Bool.{cases_lt}
@@ -12,19 +12,19 @@ use Rattle.plain_model.specs.Tables.{Rows}
 use Rattle.table_walk.specs.declared.plan.Edit.{Edit}
 use Rattle.table_walk.specs.declared.plan.Spot.TheVariants.{Old}
 use Rattle.table_walk.specs.declared.visit.Visit.{Visit}
-use Rattle.table_walk.specs.Plans.{after, Go, also, AreFree, AreWithin, Carries, cut_all, put_all}
+use Rattle.table_walk.specs.Plans.{after, Go, also, AreFree, AreWithin, cut_all, put_all}
 use Rattle.table_walk.specs.Tables.{is_leaf}
 use Rattle.table_walk.specs.Walk.{Reaches, IsSeenWalk}
 use Rattle.table_walk.proofs.WalkLemmas.{is_all}
 use Rattle.table_heap.specs.declared.growing.Growth.{Growth}
 use Rattle.table_heap.specs.declared.growing.RootPage.{RootPage}
 use Rattle.table_heap.specs.Emission.{read_pages, read_slots, leaf_spots, MakesAll, last_or, IsPlanned}
-use Rattle.table_heap.specs.Growth.{IsNumbering, IsChain, leaf_claims, root_claims, pages_in, Begins, IsGrowing}
+use Rattle.table_heap.specs.Growth.{IsNumbering, IsChain, leaf_claims, root_claims, pages_in, Begins}
 use Rattle.table_heap.specs.Heap.{heap_kids, first, RowsAt}
-use Rattle.table_heap.specs.Leaves.{Leaf, slots_of, all_rows, ByKeys, cut_keys, put_rows}
+use Rattle.table_heap.specs.Leaves.{Leaf, slots_of, cut_keys, put_rows}
 use Rattle.table_heap.specs.Places.{Index, AreRows, AreApart, IsDraft}
 use Rattle.table_heap.specs.Planning.{MayPut, HasLeaves, Promises}
-use Rattle.table_heap.specs.Shape.{visits_of, times, leaves_in, roots_in, IsHeapOf}
+use Rattle.table_heap.specs.Shape.{visits_of, times, leaves_in, roots_in}
 use Rattle.table_heap.proofs.ApartLemmas.{rows_are, apart_of}
 use Rattle.table_heap.proofs.EmissionLemmas.{map_length}
 use Rattle.table_heap.proofs.EmittedLemmas.{Emitted, emitted}

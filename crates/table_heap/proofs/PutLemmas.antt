@@ -1,5 +1,5 @@
 -- Rows of leaves that were cut and put are rows that may be put.
-use Rattle.std.proofs.Common.{refl, ◌≡◌, ℕ, suc, ◌≤◌, arith, length, List, [], ◌∷◌, ◌++◌, ap, sym, ◌∙◌, subst, Bool, true, false, cond, Option, None, Some}
+use Rattle.std.proofs.Common.{refl, ◌≡◌, suc, ◌≤◌, arith, length, List, [], ◌∷◌, ◌++◌, ap, ◌∙◌, Bool, true, false, cond, Option, None, Some}
 use Rattle.std.specs.List.{All}
 use Rattle.std.proofs.lemmas.List.Elements.{All-nil, All-cons, All-head, All-tail, All-append}
 use Rattle.page_base.specs.declared.column.Column.{Column}

@@ -1,5 +1,5 @@
 -- The leaves as they were read: their slots, and a slot that is no row.
-use Rattle.std.proofs.Common.{◌≡◌, ℕ, ◌+◌, ◌<◌, ◌≤◌, List, [], ◌∷◌, ◌++◌, length, get_or, take, map, ap, sym, ◌∙◌, subst, arith}
+use Rattle.std.proofs.Common.{◌≡◌, ℕ, ◌+◌, ◌<◌, ◌≤◌, List, [], ◌∷◌, ◌++◌, length, get_or, take, map, ap, sym, ◌∙◌, arith}
 use Rattle.std.proofs.lemmas.List.{take_more, take_all, map-append, length-map, get_or-map, get_or_default}
 use Rattle.std.specs.List.{Any}
 use Rattle.page_base.specs.declared.column.Column.{Column}
@@ -9,7 +9,7 @@ use Rattle.table_walk.specs.declared.refusal.SeenRefusal.TheVariants.{Damaged, M
 use Rattle.table_walk.specs.Answers.{IsAt, IsOn}
 use Rattle.table_walk.specs.Tables.{IsNoRow}
 use Rattle.table_heap.specs.Leaves.{Leaf, slots_of}
-use Rattle.table_heap.specs.Places.{AreApart, AreRows, IsDraft, IsSoFar, Index}
+use Rattle.table_heap.specs.Places.{AreRows, IsDraft, IsSoFar, Index}
 use Rattle.table_heap.proofs.DraftLemmas.{map_at, so_far_all}
 
 -- the slots of a page at a place

@@ -1,8 +1,8 @@
 -- A walk of a heap is the chain of its root pages and leaves, and each chain of different pages is walked so.
-use Rattle.std.proofs.Common.{refl, ◌≡◌, ◌≢◌, ℕ, zero, suc, ◌+◌, ◌<◌, ◌≤◌, List, [], ◌∷◌, ◌++◌, length, get_or, map, take, drop, ap, sym, ◌∙◌, subst, arith, Bool, true, false, cond, ◌==◌, ◌&&◌, Result, Ok, Err, IsOkAnd, Option, None, Some, append_assoc, length-append, length-take, eq-eqb, eqb-true}
+use Rattle.std.proofs.Common.{refl, ◌≡◌, ◌≢◌, ℕ, zero, suc, ◌+◌, ◌<◌, ◌≤◌, List, [], ◌∷◌, ◌++◌, length, get_or, map, take, drop, ap, sym, ◌∙◌, subst, arith, Bool, true, false, cond, ◌==◌, ◌&&◌, Result, Ok, Err, IsOkAnd, Option, None, Some, length-append, length-take, eq-eqb, eqb-true}
 use Rattle.std.specs.Prelude.{option_to_list, slice_index}
-use Rattle.std.specs.List.{Any, AllPairs}
-use Rattle.std.proofs.lemmas.List.{append-nil, get_or_default, take_all, drop_all, take_at, drop_at, take-append-drop}
+use Rattle.std.specs.List.{AllPairs}
+use Rattle.std.proofs.lemmas.List.{append-nil, take_all, drop_all, take_at, drop_at, take-append-drop}
 use Rattle.page_base.specs.declared.numbers.PageId.{PageId}
 use Rattle.page_base.specs.Pages.{is_page}
 use Rattle.page_fmt.specs.Seen.{SlotsAt}

@@ -1,10 +1,10 @@
 -- The slots of a leaf and the bytes that they take.
-use Rattle.std.proofs.Common.{refl, ◌≡◌, ◌≢◌, ℕ, zero, suc, ◌+◌, ◌-◌, ◌*◌, ◌<◌, ◌≤◌, max, Bool, true, false, List, [], ◌∷◌, ◌++◌, length, take, drop, get_or, set, ap, sym, ◌∙◌, subst, arith, inl, inr, ◌⊎◌}
-use Rattle.std.proofs.lemmas.List.{take_more, drop_more, length-set, append-nil, take_all, drop_all}
+use Rattle.std.proofs.Common.{refl, ◌≡◌, ◌≢◌, ℕ, zero, suc, ◌+◌, ◌-◌, ◌*◌, ◌<◌, ◌≤◌, List, [], ◌∷◌, ◌++◌, length, take, drop, get_or, set, ap, sym, ◌∙◌, arith, inl, inr, ◌⊎◌}
+use Rattle.std.proofs.lemmas.List.{take_more, drop_more, take_all, drop_all}
 use Rattle.std.proofs.lemmas.Bool.{cases_lt, cases_order}
 use Rattle.page_fmt.specs.Edits.{set_slot, cleared, trimmed, before}
 use Rattle.page_fmt.specs.Spelling.{used, row_bytes, LastIsFull, FitsPage}
-use Rattle.page_fmt.proofs.SlotLemmas.{length-set_slot, row_bytes-set_slot, LastIsFull-set_slot, row_bytes-slot}
+use Rattle.page_fmt.proofs.SlotLemmas.{LastIsFull-set_slot}
 use Rattle.table_heap.specs.Places.{IsFirstEmpty}
 
 abbrev Slots : Type 0

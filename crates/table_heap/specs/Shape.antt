@@ -1,5 +1,5 @@
 -- The shape of a heap: root pages in a chain, and the leaves that they name, 1,000 on each before the next.
-use Rattle.std.specs.Prelude.{◌≡◌, ◌≤◌, true, if◌then◌else◌, Option, None, Some, ℕ, ◌+◌, List, [], ◌∷◌, ◌++◌, length, take, drop}
+use Rattle.std.specs.Prelude.{◌≡◌, ◌≤◌, true, if◌then◌else◌, Some, ℕ, ◌+◌, List, [], ◌∷◌, ◌++◌, length, take, drop}
 use Rattle.page_base.specs.declared.numbers.PageId.{PageId}
 use Rattle.page_base.specs.Pages.{is_page}
 use Rattle.page_fmt.specs.Seen.{SlotsAt}

@@ -1,5 +1,5 @@
 use Rattle.table_walk.proofs.Exits.{on_ok}
-use Rattle.table_heap.proofs.EmissionLemmas.{adds_old, adds_new}
+use Rattle.table_heap.proofs.EmissionLemmas.{adds_old}
 use Rattle.table_heap.proofs.emission.add_leaf.Goals as goal
 
 pub returns-then-leaf-places : goal.returns-then-leaf-places

@@ -1,11 +1,10 @@
-use Rattle.std.proofs.Common.{◌≡◌, ◌+◌, ◌-◌, ◌<◌, ◌≤◌, [], ◌∷◌, ◌++◌, length, get_or, map, ap, sym, ◌∙◌, subst, arith, length-append}
-use Rattle.page_fmt.specs.Spelling.{FitsPage}
+use Rattle.std.proofs.Common.{◌-◌, ◌<◌, ◌≤◌, [], length, get_or, subst, arith}
 use Rattle.table_walk.specs.Differences.{AddsPage}
 use Rattle.table_walk.proofs.Exits.{on_ok}
 use Rattle.table_heap.specs.declared.growing.RootPage.{RootPage}
 use Rattle.table_heap.specs.Emission.{read_pages, read_slots, leaf_spots}
 use Rattle.table_heap.specs.Growth.{pages_in, slots_made}
-use Rattle.table_heap.proofs.EmissionLemmas.{spots_length, adds_leaf, adds_root}
+use Rattle.table_heap.proofs.EmissionLemmas.{spots_length, adds_leaf}
 use Rattle.table_heap.proofs.emission.add_page.Goals as goal
 
 pub returns-then-page-len : goal.returns-then-page-len

@@ -1,4 +1,3 @@
-use Rattle.std.proofs.Common.{◌≡◌, [], true, false}
 use Rattle.std.proofs.lemmas.Bool.{iff_false}
 use Rattle.table_heap.proofs.SlotsLemmas.{filled_full, filled_empty}
 use Rattle.table_heap.proofs.leaf.filled.Goals as goal

@@ -1,4 +1,4 @@
-use Rattle.std.proofs.Common.{◌≡◌, get_or, take, ap, sym, ◌∙◌, None}
+use Rattle.std.proofs.Common.{get_or, take, ap, sym, ◌∙◌, None}
 use Rattle.std.proofs.lemmas.List.{get_or_default}
 use Rattle.table_walk.specs.declared.visit.Visit.{Visit}
 use Rattle.table_heap.specs.Emission.{last_or}

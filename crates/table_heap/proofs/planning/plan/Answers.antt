@@ -1,7 +1,6 @@
-use Rattle.std.proofs.Common.{◌≡◌, ◌<◌, [], List, ℕ, length, map, sym, ◌∙◌, ap, subst}
+use Rattle.std.proofs.Common.{◌≡◌, ◌<◌, List, ℕ, length, map, sym, ◌∙◌, ap, subst}
 use Rattle.std.specs.List.{All}
-use Rattle.page_fmt.specs.Seen.{Saw, place_of}
-use Rattle.table_walk.specs.declared.visit.Visit.{Visit}
+use Rattle.page_fmt.specs.Seen.{place_of}
 use Rattle.table_walk.specs.Answers.{IsAt, IsMemory}
 use Rattle.table_walk.specs.Tables.{IsBadRow}
 use Rattle.table_walk.proofs.Exits.{handed_on}

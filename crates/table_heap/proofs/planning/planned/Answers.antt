@@ -1,10 +1,6 @@
-use Rattle.std.proofs.Common.{◌≡◌, ◌+◌, ◌<◌, ◌≤◌, [], List, length, ap, sym, ◌∙◌, subst, arith, ℕ}
+use Rattle.std.proofs.Common.{◌≡◌, ◌+◌, ◌<◌, List, length, ap, sym, ◌∙◌, subst, arith, ℕ}
 use Rattle.std.specs.List.{All}
-use Rattle.page_base.specs.declared.numbers.PageId.{PageId}
-use Rattle.page_fmt.specs.Seen.{look}
-use Rattle.table_heap.specs.Emission.{last_or}
-use Rattle.table_heap.specs.Growth.{IsNumbering, pages_in}
-use Rattle.table_heap.specs.Shape.{roots_in}
+use Rattle.table_heap.specs.Growth.{pages_in}
 use Rattle.table_heap.proofs.GrowingLemmas.{chain_short}
 use Rattle.table_heap.proofs.PlanningLemmas.{Counted, last_counted, numbered_all}
 use Rattle.table_heap.proofs.planning.planned.Goals as goal

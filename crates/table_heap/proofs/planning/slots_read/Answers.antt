@@ -1,5 +1,5 @@
-use Rattle.std.proofs.Common.{◌≡◌, ◌<◌, ◌≤◌, [], length, get_or, ap, sym, ◌∙◌, arith}
-use Rattle.page_fmt.specs.Seen.{Looked, Saw, look}
+use Rattle.std.proofs.Common.{[], length, get_or, ap, sym, ◌∙◌, arith}
+use Rattle.page_fmt.specs.Seen.{Looked, Saw}
 use Rattle.page_fmt.proofs.SeenLemmas.{look-place}
 use Rattle.table_heap.proofs.PlanningLemmas.{look_none}
 use Rattle.table_heap.proofs.planning.slots_read.Goals as goal

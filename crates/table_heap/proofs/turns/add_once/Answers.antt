@@ -1,4 +1,4 @@
-use Rattle.std.proofs.Common.{◌≡◌, ◌<◌, ◌∙◌, List, ℕ, false, true, length, get_or, set, ap, sym, subst, arith}
+use Rattle.std.proofs.Common.{◌<◌, ◌∙◌, false, true, length, set, sym, subst, arith}
 use Rattle.std.proofs.lemmas.List.{get_or_default}
 use Rattle.table_heap.specs.Turns.{Marks}
 use Rattle.table_heap.proofs.TurnLemmas.{marks_more}

@@ -3,7 +3,6 @@ use Rattle.std.specs.FinMap as finite
 use Rattle.page_fmt.specs.Edits.{set_slot}
 use Rattle.row_fmt.specs.Rows.{row_bytes}
 use Rattle.table_walk.proofs.Exits.{on_ok}
-use Rattle.table_walk.proofs.RowsLemmas.{Key}
 use Rattle.table_heap.specs.Leaves.{add}
 use Rattle.table_heap.specs.Places.{Index, IsDraft, IsPlaceFor}
 use Rattle.table_heap.proofs.DraftLemmas.{add_draft}

@@ -1,4 +1,4 @@
-use Rattle.std.proofs.Common.{◌≡◌, ◌≢◌, ◌≤◌, ◌∙◌, List, ℕ, [], length, get_or, set, ap, sym, subst, false}
+use Rattle.std.proofs.Common.{◌≡◌, ◌≤◌, ◌∙◌, List, ℕ, [], length, get_or, set, ap, sym, subst, false}
 use Rattle.std.specs.FinMap as finite
 use Rattle.page_base.specs.declared.column.Column.{Column}
 use Rattle.page_fmt.specs.Edits.{set_slot}

@@ -1,8 +1,7 @@
-use Rattle.std.proofs.Common.{◌≡◌, ◌+◌, ◌++◌, ◌∷◌, [], ◌∙◌, List, take, get_or, ap, sym, subst}
+use Rattle.std.proofs.Common.{◌≡◌, ◌+◌, ◌++◌, ◌∷◌, [], ◌∙◌, List, take, ap, sym, subst}
 use Rattle.std.proofs.lemmas.List.{take_more, take_all}
 use Rattle.table_walk.proofs.RowsLemmas.{Key}
 use Rattle.table_heap.specs.Leaves.{Leaf, put_rows}
-use Rattle.table_heap.specs.Planning.{MayPut}
 use Rattle.table_heap.specs.Places.{IsDraft}
 use Rattle.table_heap.proofs.DraftLemmas.{put_more}
 use Rattle.table_heap.proofs.draft.Draft.put_all.Goals as goal

@@ -1,4 +1,4 @@
-use Rattle.std.proofs.Common.{◌≡◌, List, ℕ, length, get_or, map, take}
+use Rattle.std.proofs.Common.{◌≡◌, List, ℕ, get_or, map, take}
 use Rattle.page_fmt.specs.Seen.{Looked}
 use Rattle.table_heap.specs.Leaves.{Leaf, slots_of}
 use Rattle.table_heap.specs.Places.{AreApart, AreRows, IsSoFar}

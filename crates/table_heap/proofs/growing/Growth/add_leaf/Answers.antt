@@ -1,4 +1,4 @@
-use Rattle.std.proofs.Common.{◌≡◌, ◌∷◌, [], ap, sym, ◌∙◌, subst}
+use Rattle.std.proofs.Common.{◌∷◌, [], sym, subst}
 use Rattle.table_heap.specs.Growth.{IsGrowing}
 use Rattle.table_heap.proofs.GrowingLemmas.{growing_claim}
 use Rattle.table_heap.proofs.growing.Growth.add_leaf.Goals as goal

@@ -1,7 +1,6 @@
-use Rattle.std.proofs.Common.{◌≡◌, ◌+◌, ◌∷◌, ◌++◌, [], ap, sym, ◌∙◌}
+use Rattle.std.proofs.Common.{◌≡◌, ◌+◌, ◌∷◌, ◌++◌, [], ap, ◌∙◌}
 use Rattle.std.specs.Prelude.{None, Some}
 use Rattle.table_heap.specs.declared.growing.Growth.{Growth}
-use Rattle.table_heap.specs.declared.growing.RootPage.{RootPage}
 use Rattle.table_walk.specs.declared.plan.Spot.TheVariants.{New}
 use Rattle.table_heap.proofs.GrowingLemmas.{growing_root}
 use Rattle.table_heap.proofs.growing.Growth.add_root.Goals as goal

@@ -1,4 +1,4 @@
-use Rattle.std.proofs.Common.{◌≡◌, ◌≤◌, ◌<◌, ◌+◌, length, List, ℕ, ap, sym, subst, arith}
+use Rattle.std.proofs.Common.{◌≤◌, ◌<◌, length, List, ℕ, subst, arith}
 use Rattle.std.proofs.lemmas.Bool.{leb-true, leb-false}
 use Rattle.page_fmt.specs.Edits.{set_slot}
 use Rattle.page_fmt.specs.Spelling.{used}

@@ -1,4 +1,4 @@
-use Rattle.std.proofs.Common.{◌≡◌, ◌≤◌, ◌∙◌, List, ℕ, ap, sym, subst}
+use Rattle.std.proofs.Common.{◌≤◌, ◌∙◌, List, ℕ, ap, sym, subst}
 use Rattle.page_fmt.specs.Spelling.{used}
 use Rattle.table_heap.proofs.leaf.LeafSlots.read.Goals as goal
 

@@ -1,4 +1,4 @@
-use Rattle.std.proofs.Common.{◌≡◌, ◌≤◌, ◌<◌, ◌+◌, ◌++◌, ◌∷◌, [], ◌∙◌, length, set, List, ℕ, ap, sym, subst, arith}
+use Rattle.std.proofs.Common.{◌≡◌, ◌≤◌, ◌<◌, ◌+◌, ◌∙◌, length, set, List, ℕ, ap, sym, subst, arith}
 use Rattle.page_fmt.specs.Edits.{set_slot}
 use Rattle.page_fmt.specs.Spelling.{used, FitsPage}
 use Rattle.table_heap.proofs.SlotsLemmas.{slot_bound, used_within, used_behind, set_within, set_behind, fits_set}

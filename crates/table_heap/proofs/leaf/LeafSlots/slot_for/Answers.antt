@@ -1,4 +1,4 @@
-use Rattle.std.proofs.Common.{◌≡◌, ◌≢◌, ◌≤◌, ◌<◌, ◌+◌, ◌-◌, ◌⊎◌, inl, inr, length, List, ℕ, ap, sym, subst, arith}
+use Rattle.std.proofs.Common.{◌≡◌, ◌≢◌, ◌≤◌, ◌<◌, ◌+◌, ◌-◌, ◌⊎◌, inl, inr, length, List, ℕ, sym, subst, arith}
 use Rattle.page_fmt.specs.Edits.{set_slot}
 use Rattle.page_fmt.specs.Spelling.{used}
 use Rattle.table_heap.specs.Places.{IsFirstEmpty}
