@@ -1,5 +1,6 @@
 pub mod ApartLemmas
 pub mod DraftLemmas
+pub mod EmissionLemmas
 pub mod GrowChain
 pub mod GrowEdits
 pub mod GrowLemmas
@@ -10,8 +11,9 @@ pub mod GrowingLemmas
 pub mod HeapLemmas
 pub mod LeafLemmas
 pub mod PlaceLemmas
+pub mod PlanningLemmas
 pub mod PutLemmas
-pub mod ShapeLemmas
 pub mod ReadLemmas
+pub mod ShapeLemmas
 pub mod SlotsLemmas
 pub mod TurnLemmas

@@ -352,7 +352,7 @@ of_reaches at root p roots leaves h x = subst (λ n. 1 ≤ n) (times_visits at p
 
 -- ROOT PAGES AND LEAVES OF A WALK
 
-leaves_in-append : (xs ys : List Visit) → leaves_in (xs ++ ys) ≡ leaves_in xs ++ leaves_in ys
+pub leaves_in-append : (xs ys : List Visit) → leaves_in (xs ++ ys) ≡ leaves_in xs ++ leaves_in ys
 leaves_in-append [] ys = refl
 leaves_in-append (x ∷ xs) ys =
     let by : (b : Bool) → cond b (x.page ∷ leaves_in (xs ++ ys)) (leaves_in (xs ++ ys)) ≡ cond b (x.page ∷ leaves_in xs) (leaves_in xs) ++ leaves_in ys =
@@ -362,7 +362,7 @@ leaves_in-append (x ∷ xs) ys =
     ] in
     by (is_leaf x)
 
-roots_in-append : (xs ys : List Visit) → roots_in (xs ++ ys) ≡ roots_in xs ++ roots_in ys
+pub roots_in-append : (xs ys : List Visit) → roots_in (xs ++ ys) ≡ roots_in xs ++ roots_in ys
 roots_in-append [] ys = refl
 roots_in-append (x ∷ xs) ys =
     let by : (b : Bool) → cond b (roots_in (xs ++ ys)) (x.page ∷ roots_in (xs ++ ys)) ≡ cond b (roots_in xs) (x.page ∷ roots_in xs) ++ roots_in ys =

@@ -1,16 +1,17 @@
 //! Which claimed pages become leaves and root pages, and which root page names which leaf.
 
-ghost use Rattle.std.specs.Prelude.{ℕ, List, [], ◌∷◌, ◌++◌, ◌≡◌, ◌≤◌, ◌<◌, ◌+◌, ◌-◌, None, Some, IfOk, OnOk};
+ghost use Rattle.std.specs.Prelude.{ℕ, List, [], ◌∷◌, ◌++◌, ◌≡◌, ◌≤◌, ◌<◌, ◌+◌, ◌-◌, None, Some, IfSome, IfOk, OnOk, length, slice_index_or};
 ghost use Rattle.table_walk.specs.declared.plan.Spot.{Spot};
 ghost use Rattle.table_walk.specs.declared.plan.Spot.TheVariants.{New, Old};
-ghost use Rattle.table_heap.specs.Growth.{IsGrowing, slots_made};
+ghost use Rattle.table_heap.specs.Growth.{IsGrowing, pages_in, slots_made};
+ghost use Rattle.table_heap.specs.declared.growing.RootPage.{RootPage};
 
 use page_base::{ListOf, NoMemory, PageId};
 use std::alloc::Global;
 use table_walk::Spot;
 
-// The most slots that a root page has.
-const SLOTS: usize = 1001;
+/// The most slots that a root page has.
+pub(crate) const SLOTS: usize = 1001;
 
 /// A root page that has so many slots, none where it is claimed, and is to name more: leaves by their claims, and perhaps
 /// the next root page.
@@ -59,6 +60,24 @@ impl Growth {
             last: root_page(alloc, Spot::Old(last), slots),
             room: SLOTS - slots,
         }
+    }
+
+    /// How many pages change with so many leaves, if that is a number at all.
+    pub(crate) fn pages(&self, leaves: usize) -> Option<usize>
+        ensures { IfSome result (λ n. n ≡ leaves + length (pages_in self.now)) }
+    {
+        leaves.checked_add(self.full.len())?.checked_add(1)
+    }
+
+    /// A root page that changes, in order.
+    pub(crate) fn root(&self, i: usize) -> &RootPage
+        requires { i < length (pages_in self.now) }
+        ensures { (d : RootPage) → slice_index_or (pages_in self.now) i d ≡ result.now }
+    {
+        if i < self.full.len() {
+            return self.full.at(i);
+        }
+        &self.last
     }
 
     // Claims a page.

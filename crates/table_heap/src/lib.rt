@@ -2,6 +2,7 @@
 #![tactic(auto)]
 
 mod draft;
+mod emission;
 mod growing;
 mod law;
 mod layout;

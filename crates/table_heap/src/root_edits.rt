@@ -1,10 +1,9 @@
 //! The edits of root pages that are to name more.
 
 ghost use Rattle.std.specs.Prelude.{ℕ, List, [], ◌∷◌, ◌++◌, ◌≡◌, ◌≤◌, ◌<◌, ◌+◌, None, Some, OnOk, length, max};
-ghost use Rattle.std.specs.List.{All};
-ghost use Rattle.table_heap.specs.Growth.{slots_made, front_edits, name_edits, root_edits, chain_edits, pages_in};
+ghost use Rattle.table_heap.specs.Growth.{slots_made, front_edits, name_edits, root_edits};
 
-use crate::growing::{Growth, RootPage};
+use crate::growing::RootPage;
 use page_base::{Bytes, NoMemory};
 use std::alloc::Global;
 use table_walk::{Edit, EditList, Spot};
@@ -64,27 +63,12 @@ fn add_names(
     Ok(())
 }
 
-// The edits of a root page.
-fn add_root(alloc: Global, page: &RootPage, edits: &mut EditList) -> Result<(), NoMemory>
+/// Puts behind others the edits of a root page.
+pub(crate) fn add_root(alloc: Global, page: &RootPage, edits: &mut EditList) -> Result<(), NoMemory>
     requires { slots_made page.now ≤ 1001 }
     ensures { OnOk result (edits.new ≡ edits.old ++ root_edits page.now) }
 {
     add_front(alloc, page, edits)?;
     let first = page.slots.max(1);
     add_names(alloc, page.spot, first, page.names.as_slice(), edits)
-}
-
-/// Puts behind others the edits of the root pages, in order.
-pub(crate) fn add_roots(
-    alloc: Global,
-    growth: &Growth,
-    edits: &mut EditList,
-) -> Result<(), NoMemory>
-    requires { All (λ r. slots_made r ≤ 1001) (pages_in growth.now) }
-    ensures { OnOk result (edits.new ≡ edits.old ++ chain_edits (pages_in growth.now)) }
-{
-    for page in growth.full.as_slice() {
-        add_root(alloc, page, edits)?;
-    }
-    add_root(alloc, &growth.last, edits)
 }
