@@ -127,10 +127,10 @@ module _ (claimed : ℕ → PageId) where
           ] in
           by (is_page page q) refl
 
-  set_here : (at : SlotsAt) (page other : PageId) (x : Slots) → other ≡ page → set_at at other x page ≡ x
+  pub set_here : (at : SlotsAt) (page other : PageId) (x : Slots) → other ≡ page → set_at at other x page ≡ x
   set_here at page other x e = ap (λ b. cond b x (at page)) (ap (λ p. is_page p page) e ∙ is_page-same page)
 
-  set_other : (at : SlotsAt) (page q : PageId) (x : Slots) → page ≢ q → set_at at page x q ≡ at q
+  pub set_other : (at : SlotsAt) (page q : PageId) (x : Slots) → page ≢ q → set_at at page x q ≡ at q
   set_other at page q x ne = ap (λ b. cond b x (at q)) (is_page-other page q ne)
 
   go_all : (at : SlotsAt) (page : PageId) (s : Slots) (es : List Edit) → at page ≡ s → AreOn page es → GoOn s es → Go claimed at es

@@ -21,7 +21,7 @@ count_append i (x ∷ xs) ys = omega (arith, count_append i xs ys)
 pub count_here : (j i n : ℕ) → j ≡ i → cond {A = ℕ} (j == i) 1 0 + n ≡ 1 + n
 count_here j i n e = ap (λ b. cond {A = ℕ} b 1 0 + n) (eq-eqb j i e)
 
-count_other : (j i n : ℕ) → j ≢ i → cond {A = ℕ} (j == i) 1 0 + n ≡ n
+pub count_other : (j i n : ℕ) → j ≢ i → cond {A = ℕ} (j == i) 1 0 + n ≡ n
 count_other j i n ne = ap (λ b. cond {A = ℕ} b 1 0 + n) (ne_eqb j i ne) ∙ zero_more n
   where
     zero_more : (n : ℕ) → 0 + n ≡ n

@@ -125,7 +125,7 @@ split_last : (r : PageId) (rs : List PageId) → Split r rs
 split_last r [] = record { front = []; last = r; is = refl }
 split_last r (q ∷ qs) = let s : Split q qs = split_last q qs in record { front = r ∷ s.front; last = s.last; is = ap (λ ps. r ∷ ps) s.is }
 
-last_page : (at : SlotsAt) (front : List PageId) (last : PageId) (leaves : List PageId) → Chain at (front ++ last ∷ []) leaves → (ls : List PageId) × IsRootPage (at last) (take 1000 ls) []
+pub last_page : (at : SlotsAt) (front : List PageId) (last : PageId) (leaves : List PageId) → Chain at (front ++ last ∷ []) leaves → (ls : List PageId) × IsRootPage (at last) (take 1000 ls) []
 last_page at [] last leaves c = (leaves, c.0)
 last_page at (f ∷ fs) last leaves c = last_page at fs last (drop 1000 leaves) c.1
 

@@ -1,6 +1,7 @@
 pub mod ApartLemmas
 pub mod DraftLemmas
 pub mod EmissionLemmas
+pub mod EmittedLemmas
 pub mod GrowChain
 pub mod GrowEdits
 pub mod GrowLemmas
@@ -9,9 +10,11 @@ pub mod GrowRows
 pub mod GrowTable
 pub mod GrowingLemmas
 pub mod HeapLemmas
+pub mod InTurn
 pub mod LeafLemmas
 pub mod PlaceLemmas
 pub mod PlanningLemmas
+pub mod PromiseLemmas
 pub mod PutLemmas
 pub mod ReadLemmas
 pub mod ShapeLemmas

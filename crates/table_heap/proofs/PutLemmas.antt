@@ -1,5 +1,5 @@
 -- Rows of leaves that were cut and put are rows that may be put.
-use Rattle.std.proofs.Common.{refl, ◌≡◌, List, [], ◌∷◌, ◌++◌, ap, sym, ◌∙◌, subst, Bool, true, false, cond, Option, None, Some}
+use Rattle.std.proofs.Common.{refl, ◌≡◌, ℕ, suc, ◌≤◌, arith, length, List, [], ◌∷◌, ◌++◌, ap, sym, ◌∙◌, subst, Bool, true, false, cond, Option, None, Some}
 use Rattle.std.specs.List.{All}
 use Rattle.std.proofs.lemmas.List.Elements.{All-nil, All-cons, All-head, All-tail, All-append}
 use Rattle.page_base.specs.declared.column.Column.{Column}
@@ -114,3 +114,57 @@ module _ (P : Row → Type 0) where
   -- what holds of the rows of leaves and of those that are put holds of all rows afterwards
   pub planned_all : (cols : List Column) (keys rows : List Row) (leaves : List Leaf) → All P (all_rows leaves) → All P rows → All P (all_rows (put_rows cols rows (cut_keys cols keys leaves)))
   planned_all cols keys rows leaves a p = put_rows_all cols rows (cut_keys cols keys leaves) p (cut_keys_all cols keys leaves a)
+
+-- NO LEAF IS LOST
+
+module _ (cols : List Column) where
+  cut_length : (key : Row) (leaves : List Leaf) → length (cut cols key leaves) ≡ length leaves
+  cut_length key [] = refl
+  cut_length key (leaf ∷ leaves) =
+      let by : (b : Bool) → length (cond b (trimmed (changed cols key None leaf) ∷ leaves) (leaf ∷ cut cols key leaves)) ≡ suc (length leaves) =
+      elim [
+        | true ↦ refl
+        | false ↦ ap (λ n. suc n) (cut_length key leaves)
+      ] in
+      by (holds cols key leaf)
+
+  swap_length : (key row : Row) (leaves : List Leaf) → length (swap cols key row leaves) ≡ length leaves
+  swap_length key row [] = refl
+  swap_length key row (leaf ∷ leaves) =
+      let by : (b : Bool) → length (cond b (changed cols key (Some row) leaf ∷ leaves) (leaf ∷ swap cols key row leaves)) ≡ suc (length leaves) =
+      elim [
+        | true ↦ refl
+        | false ↦ ap (λ n. suc n) (swap_length key row leaves)
+      ] in
+      by (holds cols key leaf)
+
+  add_length : (row : Row) (leaves : List Leaf) → length leaves ≤ length (add row leaves)
+  add_length row [] = omega arith
+  add_length row (leaf ∷ leaves) =
+      let by : (b : Bool) → suc (length leaves) ≤ length (cond b (added row leaf ∷ leaves) (leaf ∷ add row leaves)) =
+      elim [
+        | true ↦ omega arith
+        | false ↦ omega (arith, add_length row leaves)
+      ] in
+      by (fits (added row leaf))
+
+  put_length : (row : Row) (leaves : List Leaf) → length leaves ≤ length (put cols row leaves)
+  put_length row leaves =
+      let by : (b : Bool) → length leaves ≤ length (cond b (swap cols (key_of cols row) row leaves) (add row (cut cols (key_of cols row) leaves))) =
+      elim [
+        | true ↦ omega (arith, swap_length (key_of cols row) row leaves)
+        | false ↦ omega (arith, add_length row (cut cols (key_of cols row) leaves), cut_length (key_of cols row) leaves)
+      ] in
+      by (has_room cols (key_of cols row) row leaves)
+
+  cut_keys_length : (keys : List Row) (leaves : List Leaf) → length (cut_keys cols keys leaves) ≡ length leaves
+  cut_keys_length [] leaves = refl
+  cut_keys_length (k ∷ ks) leaves = cut_keys_length ks (cut cols k leaves) ∙ cut_length k leaves
+
+  put_rows_length : (rows : List Row) (leaves : List Leaf) → length leaves ≤ length (put_rows cols rows leaves)
+  put_rows_length [] leaves = omega arith
+  put_rows_length (r ∷ rs) leaves = omega (arith, put_length r leaves, put_rows_length rs (put cols r leaves))
+
+  -- there are no fewer leaves than before
+  pub planned_length : (keys rows : List Row) (leaves : List Leaf) → length leaves ≤ length (put_rows cols rows (cut_keys cols keys leaves))
+  planned_length keys rows leaves = omega (arith, cut_keys_length keys leaves, put_rows_length rows (cut_keys cols keys leaves))
