@@ -239,8 +239,8 @@ module _ (at : SlotsAt) (owns : PageId → Bool) (root : PageId) (claimed : ℕ 
     kept = λ p some ne. sym (done.others p (λ i there e. absurd (not_there p some ne i there e)));
     slots = same_list (map (after claimed at edits) leaf_pages) news [] (map_length (after claimed at edits) leaf_pages ∙ leaf_count)
         (λ k lt.
-            let within : k < length news = omega (arith, map_length (after claimed at edits) leaf_pages, leaf_count) in
-            map_at (after claimed at edits) leaf_pages k root [] (omega (arith, leaf_count)) ∙ ap (after claimed at edits) (sym (page_leaf k within)) ∙ done.here k (in_order k (omega arith)) ∙ new_leaf k within);
+        let within : k < length news = omega (arith, map_length (after claimed at edits) leaf_pages, leaf_count) in
+        map_at (after claimed at edits) leaf_pages k root [] (omega (arith, leaf_count)) ∙ ap (after claimed at edits) (sym (page_leaf k within)) ∙ done.here k (in_order k (omega arith)) ∙ new_leaf k within);
   }
     where
       not_there : (p : PageId) → 1 ≤ times p roots → p ≢ last → (i : ℕ) → 1 ≤ count_of i order → page i ≡ p → ⊥

@@ -38,8 +38,8 @@ module _ (claimed : ℕ → PageId) (spots : List Spot) (olds news : List (List 
       let more : (j : ℕ) → 1 ≤ count_of j is → 1 ≤ count_of j (i ∷ is) = λ j h. omega arith in
       let differ : (j : ℕ) → 1 ≤ count_of j is → page i ≢ page j =
       λ j h e.
-          let same : i ≡ j = apart i j mine (more j h) e in
-          absurd (omega (arith, once j, count_here i j (count_of j is) same)) in
+      let same : i ≡ j = apart i j mine (more j h) e in
+      absurd (omega (arith, once j, count_here i j (count_of j is) same)) in
       let next : SlotsAt = set_at at (page i) (new i) in
       let r : InTurn (set_at at (page i) (new i)) is m.1 =
       go_in_turn is (set_at at (page i) (new i)) m.1 m.3 (λ j es h. turns j es (more j h)) (λ j h. set_other claimed at (page i) (page j) (new i) (differ j h) ∙ olds_are j (more j h)) (λ j k h l. apart j k (more j h) (more k l)) (λ j. omega (arith, once j)) in

@@ -11,7 +11,7 @@ use page_fmt::{Seen, check, clear_slot, put_slot};
 use row_fmt::{encode, fits};
 use std::alloc::Global;
 use std::test::Fail;
-use table_walk::{Edit, Find, Plan, RowMap, SeenRefusal, Spot, Wants, key_of, copy_row};
+use table_walk::{Edit, Find, Plan, RowMap, SeenRefusal, Spot, Wants, copy_row, key_of};
 
 const ROOT: PageId = PageId { file: 0, page: 7 };
 
@@ -69,12 +69,7 @@ fn place(id: PageId) -> usize {
 }
 
 // Carries a plan out; false where an edit can't be done.
-fn carry(
-    alloc: Global,
-    before: u32,
-    plan: &Plan,
-    pages: &mut Vec<Page>,
-) -> Result<bool, NoMemory> {
+fn carry(alloc: Global, before: u32, plan: &Plan, pages: &mut Vec<Page>) -> Result<bool, NoMemory> {
     for i in 0..plan.new_pages {
         pages.push(Page {
             id: claimed(before, i),
@@ -164,11 +159,7 @@ fn changed(
 }
 
 // The rows of the heap; none where its pages are no heap.
-fn all_rows(
-    alloc: Global,
-    cols: &Columns,
-    pages: &[Page],
-) -> Result<Option<RowList>, SeenRefusal> {
+fn all_rows(alloc: Global, cols: &Columns, pages: &[Page]) -> Result<Option<RowList>, SeenRefusal> {
     let Some(seen) = read(alloc, pages)? else {
         return Ok(None);
     };
@@ -243,10 +234,6 @@ fn next(seed: &mut u32) -> u32 {
     x
 }
 
-fn lengths(short: bool) -> u32 {
-    if short { 40 } else { 8050 }
-}
-
 // A random change of some rows.
 fn random(alloc: Global, seed: &mut u32) -> Result<(RowList, RowList), NoMemory> {
     let mut cut = RowList::new(alloc);
@@ -255,7 +242,12 @@ fn random(alloc: Global, seed: &mut u32) -> Result<(RowList, RowList), NoMemory>
         cut.push(key(alloc, (next(seed) % 50) as i32)?)?;
     }
     for _ in 0..next(seed) % 12 {
-        let length = next(seed) % lengths(next(seed) % 3 != 0);
+        let short = next(seed) % 40;
+        let length = if next(seed) % 3 == 0 {
+            next(seed) % 8050
+        } else {
+            short
+        };
         put.push(row(alloc, (next(seed) % 50) as i32, length as usize)?)?;
     }
     Ok((cut, put))
@@ -304,21 +296,25 @@ fn a_row_that_grows_leaves_its_leaf(rt: HostRuntime) -> Result<(), Fail> {
 // A root page that names the pages 1 to 999, each a leaf of one short row.
 fn heap_of_999(alloc: Global, cols: &Columns) -> Result<Vec<Page>, NoMemory> {
     let mut pages = new_heap(alloc)?;
-    for i in 0..999 {
+    for i in 0..999u16 {
         let mut image = Image::blank(alloc)?;
-        let bytes = encoded(alloc, cols, &row(alloc, i, 100)?)?;
+        let bytes = encoded(alloc, cols, &row(alloc, i32::from(i), 100)?)?;
         write(&mut image, 0, bytes.as_slice());
-        let id = claimed(0, i as u32);
+        let id = claimed(0, u32::from(i));
         pages.push(Page { id, image })?;
         if !pages.is_empty() {
-            write(&mut pages[0].image, (i + 1) as u16, &address(id));
+            write(&mut pages[0].image, i + 1, &address(id));
         }
     }
     Ok(pages)
 }
 
 fn encoded(alloc: Global, cols: &Columns, row: &Row) -> Result<Bytes, NoMemory> {
-    if fits(row, cols) { encode(alloc, row, cols) } else { Ok(Bytes::new(alloc)) }
+    if fits(row, cols) {
+        encode(alloc, row, cols)
+    } else {
+        Ok(Bytes::new(alloc))
+    }
 }
 
 #[test]

@@ -127,7 +127,13 @@ fn planned(
     let slots = slots_read(index, seen, last);
     let more = draft.len().saturating_sub(places.len());
     let growth = grown(alloc, last, slots, more)?;
-    let wanted = uses(alloc, draft.changed(), places.len(), draft.len(), SLOTS.saturating_sub(slots))?;
+    let wanted = uses(
+        alloc,
+        draft.changed(),
+        places.len(),
+        draft.len(),
+        SLOTS.saturating_sub(slots),
+    )?;
     let Some(count) = growth.pages(draft.len()) else {
         return Err(NoMemory);
     };

@@ -19,15 +19,21 @@ loop-row-preserved c =
     (subst (All (MayPut c.args.cols.now)) (sym more) (All-push (MayPut c.args.cols.now) (take i xs) x so_far (c.in_ok-may_put_row.ensures.0 c.if-not-branch.false)))
 
 pub returns-then-not-branch : goal.returns-then-not-branch
-returns-then-not-branch c = ((λ yes. absurd (false≢true yes)), λ all.
-    let xs : List Key = c.as_slice-row-items.result.now in
-    let e : xs ≡ c.args.rows.now = c.as_slice-row-items.ensures in
-    let may : MayPut c.args.cols.now c.row-item.result =
-    subst (MayPut c.args.cols.now) (sym c.row-item.is) (subst (λ (ys : List Key). All (MayPut c.args.cols.now) ys) (sym e) all c.loop-row.row-index c.row-item.result c.loop-row-test.true) in
-    absurd (iff_false c.in_ok-may_put_row.ensures c.if-not-branch.true may))
+returns-then-not-branch c = (
+  (λ yes. absurd (false≢true yes)),
+  λ all.
+      let xs : List Key = c.as_slice-row-items.result.now in
+      let e : xs ≡ c.args.rows.now = c.as_slice-row-items.ensures in
+      let may : MayPut c.args.cols.now c.row-item.result =
+      subst (MayPut c.args.cols.now) (sym c.row-item.is) (subst (λ (ys : List Key). All (MayPut c.args.cols.now) ys) (sym e) all c.loop-row.row-index c.row-item.result c.loop-row-test.true) in
+      absurd (iff_false c.in_ok-may_put_row.ensures c.if-not-branch.true may),
+)
 
 pub returns : goal.returns
-returns c = ((λ yes.
-    let xs : List Key = c.as_slice-row-items.result.now in
-    let e : xs ≡ c.args.rows.now = c.as_slice-row-items.ensures in
-    subst (All (MayPut c.args.cols.now)) (ap (take c.loop-row.row-index) (sym e) ∙ take_all c.loop-row.row-index xs c.loop-row-test.false ∙ e) c.loop-row.invariant), λ all. refl)
+returns c = (
+  (λ yes.
+      let xs : List Key = c.as_slice-row-items.result.now in
+      let e : xs ≡ c.args.rows.now = c.as_slice-row-items.ensures in
+      subst (All (MayPut c.args.cols.now)) (ap (take c.loop-row.row-index) (sym e) ∙ take_all c.loop-row.row-index xs c.loop-row-test.false ∙ e) c.loop-row.invariant),
+  λ all. refl,
+)

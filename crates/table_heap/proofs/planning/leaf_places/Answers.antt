@@ -17,4 +17,4 @@ loop-visit-preserved c =
     let v : Visit = get_or c.args.done.now c.loop-visit.visit-index (record { page = record { file = 0; page = 0 }; from = record { file = 0; page = 0 }; slot = 0; level = None }) in
     c.in_ok-push.ensures.items ∙ (λ k. c.loop-visit.invariant k ++ c.in-Some.ensures.some k ∷ []) ∙ sym (map_end (place_of c.args.seen.now) (leaves_in (take c.loop-visit.visit-index c.args.done.now)) v.page)
     ∙ ap (map (place_of c.args.seen.now))
-        (sym (leaves_take c.args.done.now c.loop-visit.visit-index v c.loop-visit-test.true (get_or_default c.args.done.now c.loop-visit.visit-index _ v c.loop-visit-test.true) (sym c.is_leaf.ensures ∙ c.if-not-is_leaf.false)))
+    (sym (leaves_take c.args.done.now c.loop-visit.visit-index v c.loop-visit-test.true (get_or_default c.args.done.now c.loop-visit.visit-index _ v c.loop-visit-test.true) (sym c.is_leaf.ensures ∙ c.if-not-is_leaf.false)))
