@@ -7,7 +7,10 @@ mod growing;
 mod law;
 mod layout;
 mod leaf;
+mod limits;
 mod places;
+#[cfg(test)]
+mod plan_tests;
 mod planning;
 mod reading;
 mod root_edits;
@@ -16,5 +19,6 @@ mod tests;
 mod turns;
 
 pub use law::placed_rows_are_the_rows;
+pub use limits::may_put;
 pub use planning::plan;
 pub use reading::{rows, wants};
