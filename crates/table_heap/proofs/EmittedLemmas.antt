@@ -18,14 +18,13 @@ use Rattle.table_heap.specs.declared.growing.RootPage.{RootPage}
 use Rattle.table_heap.specs.Emission.{leaf_spots, Makes, MakesAll}
 use Rattle.table_heap.specs.Growth.{count_of, IsNumbering, root_made, root_edits, IsChain, root_claims}
 use Rattle.table_heap.specs.Shape.{Chain, visits_of, times, IsHeapOf}
+use Rattle.table_heap.proofs.GrowLemmas.{count_append, count_here, differ_grown, there_owned, count_at, numbered_below}
 use Rattle.table_heap.proofs.EmissionLemmas.{map_length, map_at}
 use Rattle.table_heap.proofs.GrowChain.{NamedBefore, named_before, AreTargets}
 use Rattle.table_heap.proofs.GrowEdits.{Turns, turns_plain}
-use Rattle.table_heap.proofs.GrowLemmas.{count_append, count_here, differ_grown, there_owned}
 use Rattle.table_heap.proofs.GrowRoot.{root_turns}
 use Rattle.table_heap.proofs.GrowTable.{last_page}
 use Rattle.table_heap.proofs.InTurn.{InTurn, go_in_turn}
-use Rattle.table_heap.proofs.PlanningLemmas.{count_at, numbered_below}
 use Rattle.table_heap.proofs.ShapeLemmas.{times_append, one_here, none_here}
 
 -- LISTS OF PAGES

@@ -1,6 +1,7 @@
 -- A heap whose root pages name more leaves than before: its pages are the old ones and those that are claimed.
-use Rattle.std.proofs.Common.{refl, ◌≡◌, ◌≢◌, ℕ, zero, suc, ◌+◌, ◌<◌, ◌≤◌, List, [], ◌∷◌, ◌++◌, map, ap, sym, ◌∙◌, subst, arith, Bool, true, false, cond, ◌||◌, ◌==◌, inl, inr, eq-eqb}
+use Rattle.std.proofs.Common.{refl, ◌≡◌, ◌≢◌, ℕ, zero, suc, ◌+◌, ◌<◌, ◌≤◌, List, [], ◌∷◌, ◌++◌, length, get_or, map, ap, sym, ◌∙◌, subst, arith, Bool, true, false, cond, ◌||◌, ◌==◌, inl, inr, eq-eqb}
 use Rattle.std.specs.Prelude.{◌↔◌}
+use Rattle.std.specs.List.{All}
 use Rattle.std.proofs.lemmas.Bool.{cases_lt, cases_eq, ne_eqb}
 use Rattle.page_base.specs.declared.numbers.PageId.{PageId}
 use Rattle.page_base.specs.Pages.{is_page}
@@ -49,6 +50,22 @@ numbering_more n xs ys zs h e = record {
 
     none : (i : ℕ) → n ≢ i → cond {A = ℕ} (n == i) 1 0 + count_of i (xs ++ ys) ≡ count_of i (xs ++ ys)
     none i ne = count_other n i (count_of i (xs ++ ys)) ne
+
+-- NUMBERS IN AN ORDER
+
+pub count_at : (xs : List ℕ) (k d : ℕ) → k < length xs → 1 ≤ count_of (get_or xs k d) xs
+count_at [] k d h = absurd (omega arith)
+count_at (x ∷ xs) zero d h = omega (arith, count_here x x (count_of x xs) refl)
+count_at (x ∷ xs) (suc k) d h = omega (arith, count_at xs k d (omega arith))
+
+pub numbered_below : (n i : ℕ) (xs : List ℕ) → IsNumbering n xs → 1 ≤ count_of i xs → i < n
+numbered_below n i xs h some = elim (cases_lt i n) [
+  | inl lt ↦ lt
+  | inr ge ↦ absurd (omega (arith, h.below i ge))
+]
+
+pub numbered_all : (n : ℕ) (xs : List ℕ) → IsNumbering n xs → All (λ i. i < n) xs
+numbered_all n xs h k d lt = numbered_below n (get_or xs k d) xs h (count_at xs k d lt)
 
 -- PAGES THAT ARE CLAIMED
 

@@ -42,28 +42,28 @@ pub record Grows (cols : List Column) (at other : SlotsAt) (claimed : ℕ → Pa
   pub may : All (MayPut cols) (all_rows made)
   pub keys : ByKeys cols (all_rows made) rows
 
+-- the heap afterwards
+pub record IsAfter (cols : List Column) (other : SlotsAt) (owns : PageId → Bool) (root : PageId) (before : List Visit) (claimed : ℕ → PageId) (leaves roots : List ℕ) (rows : Rows) (made : List Leaf) : Type 0 where
+  pub table : RowsAt cols other owns root rows
+  pub has : HasLeaves cols other root made
+  pub done : List Visit
+  pub walk : IsWalk heap_kids other (first root) done []
+  pub leaves_are : leaves_in done ≡ leaves_in before ++ map claimed leaves
+  pub roots_are : roots_in done ≡ roots_in before ++ map claimed roots
+
 root_length : (s : List (List ℕ)) (ls rs : List PageId) → IsRootPage s ls rs → length s ≡ 1 + length ls
 root_length [] ls rs p = absurd p
 root_length (x ∷ xs) ls rs p = omega (arith, Name-length xs ls p.1)
 
 -- the rows are these, and the leaves
-pub grown : (cols : List Column) (at other : SlotsAt) (owns : PageId → Bool) (root : PageId) (old rows : Rows) (claimed : ℕ → PageId) (n : ℕ) (made : List Leaf) (t : RowsAt cols at owns root old) → AreFree claimed n at owns → Grows cols at other claimed n t.0 made rows
-    → RowsAt cols other (also owns claimed n) root rows × HasLeaves cols other root made
+pub grown : (cols : List Column) (at other : SlotsAt) (owns : PageId → Bool) (root : PageId) (old rows : Rows) (claimed : ℕ → PageId) (n : ℕ) (made : List Leaf) (t : RowsAt cols at owns root old) → AreFree claimed n at owns → (g : Grows cols at other claimed n t.0 made rows)
+    → IsAfter cols other (also owns claimed n) root t.0 claimed (leaf_claims (g.head ∷ g.more)) (root_claims (g.head ∷ g.more)) rows made
 grown cols at other owns root old rows claimed n made t free g =
     let w : IsWalkOf at root t.0 = heap_of at root t.0 t.1.walk in
     let is_roots : roots_in t.0 ≡ w.roots = ap roots_in w.is ∙ roots_in-visits root w.roots w.leaves in
     let is_leaves : leaves_in t.0 ≡ w.leaves = ap leaves_in w.is ∙ leaves_in-visits at root w.roots w.leaves w.heap.chain in
     whole w.roots w.leaves w.heap w.is is_roots is_leaves
   where
-    chain : List RootPage
-    chain = g.head ∷ g.more
-
-    leaf_list : List ℕ
-    leaf_list = leaf_claims (g.head ∷ g.more)
-
-    root_list : List ℕ
-    root_list = root_claims (g.head ∷ g.more)
-
     below : (i : ℕ) → 1 ≤ count_of i (leaf_claims (g.head ∷ g.more)) + count_of i (root_claims (g.head ∷ g.more)) → i < n
     below i h = elim (cases_lt i n) [
       | inl lt ↦ lt
@@ -80,7 +80,8 @@ grown cols at other owns root old rows claimed n made t free g =
         (chain_made claimed at other g.head g.more olds (named_before (at (place claimed g.head.spot)) olds here) (omega (arith, g.counted, root_length (at g.last) olds [] p)) g.chain
         (λ i h. free.targets i (below i (omega arith))) (λ i h. free.targets i (below i (omega arith))) (λ i h. free.blank i (below i (omega arith))) g.changed)
 
-    whole : (roots leaves : List PageId) → IsHeapOf at root roots leaves → t.0 ≡ visits_of root roots leaves → roots_in t.0 ≡ roots → leaves_in t.0 ≡ leaves → RowsAt cols other (also owns claimed n) root rows × HasLeaves cols other root made
+    whole : (roots leaves : List PageId) → IsHeapOf at root roots leaves → t.0 ≡ visits_of root roots leaves → roots_in t.0 ≡ roots → leaves_in t.0 ≡ leaves
+        → IsAfter cols other (also owns claimed n) root t.0 claimed (leaf_claims (g.head ∷ g.more)) (root_claims (g.head ∷ g.more)) rows made
     whole roots leaves h is is_roots is_leaves =
         let rs : List PageId = map claimed (root_claims (g.head ∷ g.more)) in
         let ls : List PageId = map claimed (leaf_claims (g.head ∷ g.more)) in
@@ -97,10 +98,15 @@ grown cols at other owns root old rows claimed n made t free g =
         let done : List Visit = visits_of root (roots ++ rs) (leaves ++ ls) in
         let slots : map other (leaves_in done) ≡ map slots_of made = ap (map other) (leaves_in-visits other root (roots ++ rs) (leaves ++ ls) longer ∙ ap (λ ps. ps ++ ls) (sym is_leaves)) ∙ g.leaves in
         let walk : IsWalk heap_kids other (first root) done [] = walk_of other root (roots ++ rs) (leaves ++ ls) grows.heap in
-        let gathered : cells other done ≡ map row_bytes (all_rows made) = cells-leaves other done ∙ ap all_cells slots ∙ cells_made cols made g.may in (
-          (done, record { walk = walk; owned = grows.owned; gathers = subst (λ xs. Gathers cols xs rows) (sym gathered) (gathers_rows cols (all_rows made) rows g.may g.keys) }),
-          record { done = done; walk = walk; slots = leaf_slots-map other done ∙ slots; rows = g.may },
-        )
+        let gathered : cells other done ≡ map row_bytes (all_rows made) = cells-leaves other done ∙ ap all_cells slots ∙ cells_made cols made g.may in
+        record {
+          table = (done, record { walk = walk; owned = grows.owned; gathers = subst (λ xs. Gathers cols xs rows) (sym gathered) (gathers_rows cols (all_rows made) rows g.may g.keys) });
+          has = record { done = done; walk = walk; slots = leaf_slots-map other done ∙ slots; rows = g.may };
+          done = done;
+          walk = walk;
+          leaves_are = leaves_in-visits other root (roots ++ rs) (leaves ++ ls) longer ∙ ap (λ ps. ps ++ ls) (sym is_leaves);
+          roots_are = roots_in-visits root (roots ++ rs) (leaves ++ ls) ∙ ap (λ ps. ps ++ rs) (sym is_roots);
+        }
 
 -- THE LAST ROOT PAGE
 

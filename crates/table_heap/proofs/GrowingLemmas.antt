@@ -1,7 +1,9 @@
 -- What is claimed stays in order as leaves and root pages are claimed.
-use Rattle.std.proofs.Common.{refl, ◌≡◌, ℕ, suc, ◌+◌, ◌-◌, ◌<◌, ◌≤◌, List, [], ◌∷◌, ◌++◌, length, get_or, take, ap, sym, ◌∙◌, subst, arith, append_assoc, length-append}
+use Rattle.std.proofs.Common.{inl, inr, refl, ◌≡◌, ℕ, suc, ◌+◌, ◌-◌, ◌<◌, ◌≤◌, List, [], ◌∷◌, ◌++◌, length, get_or, take, ap, sym, ◌∙◌, subst, arith, append_assoc, length-append}
 use Rattle.std.specs.Prelude.{None, Some, Result, Ok, Err, OnOk}
-use Rattle.std.specs.List.{All}
+use Rattle.std.specs.List.{All, AllPairs}
+use Rattle.std.proofs.lemmas.Bool.{cases_eq}
+use Rattle.std.proofs.lemmas.List.Quantifiers.{all_pairs_push}
 use Rattle.std.specs.Option.{option_to_list}
 use Rattle.std.proofs.lemmas.List.{append-nil, take_more, take_all, length-take-le}
 use Rattle.std.proofs.lemmas.List.Elements.{All-nil, All-cons}
@@ -10,8 +12,8 @@ use Rattle.table_walk.specs.declared.plan.Spot.{Spot}
 use Rattle.table_walk.specs.declared.plan.Spot.TheVariants.{New}
 use Rattle.table_heap.specs.declared.growing.Growth.{Growth}
 use Rattle.table_heap.specs.declared.growing.RootPage.{RootPage}
-use Rattle.table_heap.specs.Growth.{count_of, IsNumbering, slots_made, IsChain, leaf_claims, root_claims, name_edits, root_edits, chain_edits, pages_in, Begins, IsGrowing}
-use Rattle.table_heap.proofs.GrowLemmas.{count_append, numbering_more}
+use Rattle.table_heap.specs.Growth.{count_of, IsNumbering, slots_made, IsChain, leaf_claims, root_claims, name_edits, pages_in, Begins, IsGrowing}
+use Rattle.table_heap.proofs.GrowLemmas.{count_append, count_here, count_other, count_at, numbered_below, numbering_more}
 
 -- CLAIMS
 
@@ -68,6 +70,12 @@ growing_claim spot count n g h i e =
       many = i.many;
       numbered = numbering_more g.claims [] (g.leaves ++ root_claims (pages_in g)) (g.claims ∷ (g.leaves ++ root_claims (pages_in g))) i.numbered refl;
       room = i.room;
+      ascend = i.ascend;
+      above = λ p c here there. elim (cases_eq g.claims p) [
+        | inl same ↦ omega (arith, same, numbered_below g.claims c (g.leaves ++ root_claims (pages_in g)) i.numbered (omega (arith, there, count_append c g.leaves (root_claims (pages_in g)))))
+        | inr ne ↦ absurd (omega (arith, here, count_other g.claims p 0 ne))
+      ];
+      follow = λ r some. let f = i.follow r some in (f.0, f.1, omega (arith, f.2));
     } in
     subst (IsGrowing spot count n (g.claims ∷ [])) (sym e) made
 
@@ -82,6 +90,12 @@ growing_leaf spot count n leaf g leaves names i some is_leaves is_names =
       many = ap length is_leaves ∙ length-append g.leaves (leaf ∷ []) ∙ ap (λ k. k + 1) i.many;
       numbered = numbering_same g.claims (leaf ∷ (g.leaves ++ root_claims (g.full ++ g.last ∷ []))) (leaves ++ root_claims (g.full ++ made ∷ [])) same i.numbered;
       room = omega (arith, long, i.room);
+      ascend = subst (AllPairs (λ j k. j < k)) (sym is_leaves) (all_pairs_push (λ j k. j < k) g.leaves leaf i.ascend (λ k d lt. i.above leaf (get_or g.leaves k d) (omega (arith, count_here leaf leaf 0 refl)) (count_at g.leaves k d lt)));
+      above = λ p c here there. absurd (omega arith);
+      follow = λ r there.
+          let roots : count_of r (root_claims (g.full ++ made ∷ [])) ≡ count_of r (root_claims (g.full ++ g.last ∷ [])) = ap (count_of r) (root_claims_append g.full (made ∷ []) ∙ sym (root_claims_append g.full (g.last ∷ []))) in
+          let f = i.follow r (omega (arith, there, roots)) in
+          (f.0, f.1, omega (arith, f.2, ap (count_of f.0) is_leaves, count_append f.0 g.leaves (leaf ∷ [])));
     }
   where
     made : RootPage
@@ -103,10 +117,10 @@ growing_leaf spot count n leaf g leaves names i some is_leaves is_names =
         omega (arith, roots, count_append k leaves (root_claims (g.full ++ record { spot = g.last.spot; slots = g.last.slots; names = names; next = g.last.next } ∷ [])), ap (count_of k) is_leaves, count_append k g.leaves (leaf ∷ []), count_append k g.leaves (root_claims (g.full ++ g.last ∷ [])))
 
 -- the last root page names the next one
-pub growing_root : (spot : Spot) (count n : ℕ) (pending : List ℕ) (g : Growth) (claims : ℕ) (leaves : List ℕ) (full : List RootPage) (last : RootPage) → IsGrowing spot count n pending g → g.room ≡ 0 → claims ≡ g.claims + 1 → leaves ≡ g.leaves
+pub growing_root : (spot : Spot) (count n : ℕ) (pending : List ℕ) (g : Growth) (claims : ℕ) (leaves : List ℕ) (full : List RootPage) (last : RootPage) (leaf : ℕ) → g.claims ≡ leaf + 1 → 1 ≤ count_of leaf pending → IsGrowing spot count n pending g → g.room ≡ 0 → claims ≡ g.claims + 1 → leaves ≡ g.leaves
     → full ≡ g.full ++ record g.last { next = Some g.claims } ∷ [] → last ≡ record { spot = New g.claims; slots = 0; names = []; next = None }
     → IsGrowing spot count n pending (record { claims = claims; leaves = leaves; full = full; last = last; room = 1000 })
-growing_root spot count n pending g claims leaves full last i none is_claims is_leaves is_full is_last =
+growing_root spot count n pending g claims leaves full last leaf recent there i none is_claims is_leaves is_full is_last =
     let whole : IsGrowing spot count n pending (record { claims = g.claims + 1; leaves = g.leaves; full = g.full ++ made ∷ []; last = new; room = 1000 }) =
     record {
       chain = chain_more g.full g.last made new g.claims refl refl refl (omega (arith, none, i.room)) refl refl refl (omega arith) i.chain;
@@ -116,6 +130,12 @@ growing_root spot count n pending g claims leaves full last i none is_claims is_
       numbered = numbering_same (g.claims + 1) (g.claims ∷ (pending ++ (g.leaves ++ root_claims (g.full ++ g.last ∷ [])))) (pending ++ (g.leaves ++ root_claims ((g.full ++ made ∷ []) ++ new ∷ []))) same
           (numbering_more g.claims [] (pending ++ (g.leaves ++ root_claims (g.full ++ g.last ∷ []))) (g.claims ∷ (pending ++ (g.leaves ++ root_claims (g.full ++ g.last ∷ [])))) i.numbered refl);
       room = refl;
+      ascend = i.ascend;
+      above = i.above;
+      follow = λ r some. elim (cases_eq g.claims r) as (λ _. (c : ℕ) × (r ≡ c + 1) × (1 ≤ count_of c (pending ++ g.leaves))) [
+        | inl same ↦ (leaf, sym same ∙ recent, omega (arith, there, count_append leaf pending g.leaves))
+        | inr ne ↦ i.follow r (omega (arith, some, ap (count_of r) roots, count_append r (root_claims (g.full ++ g.last ∷ [])) (g.claims ∷ []), count_other g.claims r 0 ne))
+      ];
     } in
     subst (IsGrowing spot count n pending) (λ k. record { claims = sym is_claims k; leaves = sym is_leaves k; full = sym is_full k; last = sym is_last k; room = 1000 }) whole
   where
@@ -157,17 +177,6 @@ name_edits_append spot slot (y ∷ ys) x =
     let at : slot + 1 + length ys ≡ slot + suc (length ys) = omega arith in
     ap (λ es. record { spot = spot; slot = slot; names = Some y; bytes = [] } ∷ es) (name_edits_append spot (slot + 1) ys x ∙ (λ i. name_edits spot (slot + 1) ys ++ record { spot = spot; slot = at i; names = Some x; bytes = [] } ∷ []))
 
-chain_edits_append : (rs ss : List RootPage) → chain_edits (rs ++ ss) ≡ chain_edits rs ++ chain_edits ss
-chain_edits_append [] ss = refl
-chain_edits_append (r ∷ rs) ss = ap (λ es. root_edits r ++ es) (chain_edits_append rs ss) ∙ sym (append_assoc (root_edits r) (chain_edits rs) (chain_edits ss))
-
-pub chain_edits_end : (rs : List RootPage) (r : RootPage) → chain_edits (rs ++ r ∷ []) ≡ chain_edits rs ++ root_edits r
-chain_edits_end rs r = chain_edits_append rs (r ∷ []) ∙ ap (λ es. chain_edits rs ++ es) (append-nil (root_edits r))
-
-pub on_ok : {A E P Q : Type 0} (r : Result A E) → (P → Q) → OnOk r P → OnOk r Q
-on_ok (Ok x) f p = f p
-on_ok (Err e) f p = p
-
 -- one leaf more is named
 pub names_more : (spot : Spot) (first : ℕ) (names : List ℕ) (i : ℕ) (before edits after : List Edit) (e : Edit) → edits ≡ before ++ name_edits spot first (take i names) → i < length names
     → e ≡ record { spot = spot; slot = first + i; names = Some (get_or names i 0); bytes = [] } → after ≡ edits ++ e ∷ [] → after ≡ before ++ name_edits spot first (take (i + 1) names)
@@ -176,19 +185,3 @@ names_more spot first names i before edits after e so_far lt is more =
     more ∙ (λ k. so_far k ++ is k ∷ []) ∙ append_assoc before (name_edits spot first (take i names)) (record { spot = spot; slot = first + i; names = Some (get_or names i 0); bytes = [] } ∷ [])
     ∙ (λ k. before ++ (name_edits spot first (take i names) ++ record { spot = spot; slot = first + sym long k; names = Some (get_or names i 0); bytes = [] } ∷ []))
     ∙ ap (λ es. before ++ es) (sym (name_edits_append spot first (take i names) (get_or names i 0)) ∙ ap (name_edits spot first) (sym (take_more names i 0 lt)))
-
--- the edits of one root page more
-pub roots_more : (full items : List RootPage) (i : ℕ) (r : RootPage) (before edits after : List Edit) → items ≡ full → r ≡ get_or items i r → i < length items → edits ≡ before ++ chain_edits (take i full) → after ≡ edits ++ root_edits r
-    → after ≡ before ++ chain_edits (take (i + 1) full)
-roots_more full items i r before edits after same is lt so_far more =
-    let within : i < length full = omega (arith, ap length same) in
-    let here : r ≡ get_or full i r = is ∙ ap (λ xs. get_or xs i r) same in
-    more ∙ ap (λ es. es ++ root_edits r) so_far ∙ append_assoc before (chain_edits (take i full)) (root_edits r)
-    ∙ ap (λ es. before ++ es) (sym (chain_edits_end (take i full) r) ∙ ap (λ q. chain_edits (take i full ++ q ∷ [])) here ∙ ap chain_edits (sym (take_more full i r within)))
-
--- and of the last one
-pub roots_end : (full items : List RootPage) (i : ℕ) (last : RootPage) (before edits after : List Edit) → items ≡ full → length items ≤ i → edits ≡ before ++ chain_edits (take i full) → after ≡ edits ++ root_edits last
-    → after ≡ before ++ chain_edits (full ++ last ∷ [])
-roots_end full items i last before edits after same past so_far more =
-    let all : length full ≤ i = omega (arith, ap length same) in
-    more ∙ ap (λ es. es ++ root_edits last) (so_far ∙ ap (λ rs. before ++ chain_edits rs) (take_all i full all)) ∙ append_assoc before (chain_edits full) (root_edits last) ∙ ap (λ es. before ++ es) (sym (chain_edits_end full last))

@@ -77,22 +77,6 @@ last_counted seen root done w =
     let is : l.last ≡ last_or root (roots_in done) = sym (ap (last_or root) l.roots ∙ last_or_end root l.last l.front) in
     subst (Counted seen) is (record { some = omega (arith, ap length l.slots); short = l.short })
 
--- NUMBERS IN AN ORDER
-
-pub count_at : (xs : List ℕ) (k d : ℕ) → k < length xs → 1 ≤ count_of (get_or xs k d) xs
-count_at [] k d h = absurd (omega arith)
-count_at (x ∷ xs) zero d h = omega (arith, count_here x x (count_of x xs) refl)
-count_at (x ∷ xs) (suc k) d h = omega (arith, count_at xs k d (omega arith))
-
-pub numbered_below : (n i : ℕ) (xs : List ℕ) → IsNumbering n xs → 1 ≤ count_of i xs → i < n
-numbered_below n i xs h some = elim (cases_lt i n) [
-  | inl lt ↦ lt
-  | inr ge ↦ absurd (omega (arith, h.below i ge))
-]
-
-pub numbered_all : (n : ℕ) (xs : List ℕ) → IsNumbering n xs → All (λ i. i < n) xs
-numbered_all n xs h k d lt = numbered_below n (get_or xs k d) xs h (count_at xs k d lt)
-
 -- WHERE LEAVES WERE READ
 
 any_cons : {X : Type 0} (P : X → Type 0) (x : X) (xs : List X) → Any P (x ∷ xs) → P x ⊎ Any P xs

@@ -14,16 +14,16 @@ use Rattle.table_walk.specs.declared.plan.Spot.TheVariants.{Old}
 use Rattle.table_walk.specs.declared.visit.Visit.{Visit}
 use Rattle.table_walk.specs.Plans.{after, Go, also, AreFree, AreWithin, cut_all, put_all}
 use Rattle.table_walk.specs.Tables.{is_leaf}
-use Rattle.table_walk.specs.Walk.{Reaches, IsSeenWalk}
-use Rattle.table_walk.proofs.WalkLemmas.{is_all}
+use Rattle.table_walk.specs.Walk.{Reaches, IsWalk, IsSeenWalk}
+use Rattle.table_walk.proofs.WalkLemmas.{is_all, walks-one}
 use Rattle.table_heap.specs.declared.growing.Growth.{Growth}
 use Rattle.table_heap.specs.declared.growing.RootPage.{RootPage}
 use Rattle.table_heap.specs.Emission.{read_pages, read_slots, leaf_spots, MakesAll, last_or, IsPlanned}
-use Rattle.table_heap.specs.Growth.{IsNumbering, IsChain, leaf_claims, root_claims, pages_in, Begins}
+use Rattle.table_heap.specs.Growth.{count_of, IsNumbering, IsChain, leaf_claims, root_claims, pages_in, Begins}
 use Rattle.table_heap.specs.Heap.{heap_kids, first, RowsAt}
 use Rattle.table_heap.specs.Leaves.{Leaf, slots_of, cut_keys, put_rows}
 use Rattle.table_heap.specs.Places.{Index, AreRows, AreApart, IsDraft}
-use Rattle.table_heap.specs.Planning.{MayPut, HasLeaves, Promises}
+use Rattle.table_heap.specs.Planning.{MayPut, HasLeaves, AreClaimed, Promises}
 use Rattle.table_heap.specs.Shape.{visits_of, times, leaves_in, roots_in}
 use Rattle.table_heap.proofs.ApartLemmas.{rows_are, apart_of}
 use Rattle.table_heap.proofs.EmissionLemmas.{map_length}
@@ -69,11 +69,14 @@ saw_some seen p some = elim (cases_lt (place_of seen p) (length seen)) [
 ]
 
 -- the edits, and the heap after them
-record Done (cols : List Column) (at : SlotsAt) (owns : PageId → Bool) (root : PageId) (claimed : ℕ → PageId) (n : ℕ) (edits : List Edit) (rows : Rows) (made : List Leaf) : Type 0 where
+record Done (cols : List Column) (at : SlotsAt) (owns : PageId → Bool) (root : PageId) (claimed : ℕ → PageId) (n : ℕ) (edits : List Edit) (rows : Rows) (made : List Leaf) (before : List Visit) : Type 0 where
   go : Go claimed at edits
   within : AreWithin claimed n owns edits
   table : RowsAt cols (after claimed at edits) (also owns claimed n) root rows
   leaves : HasLeaves cols (after claimed at edits) root made
+  later : List Visit
+  walk : IsWalk heap_kids (after claimed at edits) (first root) later []
+  claims : AreClaimed claimed n before later
 
 module _ (cols : List Column) (seen : List Looked) (root : PageId) (cut put : List (List Value)) (done : List Visit) (places : List ℕ) (news : List (List (List ℕ))) (index : Index) (n : ℕ) (edits : List Edit) (w : IsSeenWalk heap_kids seen (first root) done [])
     (read : places ≡ map (place_of seen) (leaves_in done))
@@ -107,7 +110,7 @@ module _ (cols : List Column) (seen : List Looked) (root : PageId) (cut put : Li
     places_many : length places ≡ length (leaves_in t.0)
     places_many = ap length read ∙ map_length (place_of seen) (leaves_in done) ∙ ap (λ vs. length (leaves_in vs)) same
 
-    result : (f : FirstRoot p.growth) (l : LastRoot at t.0) (x : IsWalkOf at root t.0) → Done cols at owns root claimed n edits (put_all cols put (cut_all cut rows)) (made_of old.leaves)
+    result : (f : FirstRoot p.growth) (l : LastRoot at t.0) (x : IsWalkOf at root t.0) → Done cols at owns root claimed n edits (put_all cols put (cut_all cut rows)) (made_of old.leaves) t.0
     result f l x =
         let g : Growth = p.growth in
         let roots_are : roots_in t.0 ≡ x.roots = ap roots_in x.is ∙ roots_in-visits root x.roots x.leaves in
@@ -148,9 +151,25 @@ module _ (cols : List Column) (seen : List Looked) (root : PageId) (cut put : Li
           keys = planned_rows cols cut put old.leaves rows old.keys;
         } in
         let all = grown cols at (after claimed at edits) owns root rows (put_all cols put (cut_all cut rows)) claimed n (made_of old.leaves) t free grows in
-        record { go = e.go; within = e.within; table = all.0; leaves = all.1 }
+        record {
+          go = e.go;
+          within = e.within;
+          table = all.table;
+          leaves = all.has;
+          later = all.done;
+          walk = all.walk;
+          claims = record {
+            leaves = p.growth.leaves;
+            roots = root_claims (f.head ∷ f.more);
+            leaves_are = all.leaves_are ∙ ap (λ is. leaves_in t.0 ++ map claimed is) claims;
+            roots_are = all.roots_are;
+            ascend = p.grows.ascend;
+            follow = λ r there. p.grows.follow r (subst (λ rs. 1 ≤ count_of r (root_claims rs)) (sym f.is) there);
+            numbered = numbered;
+          };
+        }
 
-    all_done : Done cols at owns root claimed n edits (put_all cols put (cut_all cut rows)) (made_of old.leaves)
+    all_done : Done cols at owns root claimed n edits (put_all cols put (cut_all cut rows)) (made_of old.leaves) t.0
     all_done = result (first_root p.growth) (last_root at root t.0 t.1.walk) (heap_of at root t.0 t.1.walk)
 
   pub promised : Promises cols seen root cut put n edits
@@ -162,4 +181,9 @@ module _ (cols : List Column) (seen : List Looked) (root : PageId) (cut put : Li
         let d = all_done at owns rows claimed t shows free in
         let one : (old at owns rows claimed t shows free).leaves ≡ leaves = has_leaves_one cols at root (old at owns rows claimed t shows free).leaves leaves (old at owns rows claimed t shows free).has has in
         subst (λ ls. HasLeaves cols (after claimed at edits) root (put_rows cols put (cut_keys cols cut ls))) one d.leaves;
+    claims = λ at owns rows claimed before later t shows free walk walk_later.
+        let d = all_done at owns rows claimed t shows free in
+        let was : t.0 ≡ before = walks-one heap_kids at (first root ∷ []) t.0 before t.1.walk.walks walk.walks in
+        let is : d.later ≡ later = walks-one heap_kids (after claimed at edits) (first root ∷ []) d.later later d.walk.walks walk_later.walks in
+        subst (λ vs. AreClaimed claimed n before vs) is (subst (λ vs. AreClaimed claimed n vs d.later) was d.claims);
   }

@@ -1,5 +1,6 @@
 -- What becomes of the root pages of a heap that gets leaves: pages that are claimed, each by its number.
 use Rattle.std.specs.Prelude.{◌≡◌, ◌==◌, ◌<◌, ◌≤◌, if◌then◌else◌, Option, None, Some, ℕ, zero, suc, ◌+◌, max, List, [], ◌∷◌, ◌++◌, length, drop, map}
+use Rattle.std.specs.List.{AllPairs}
 use Rattle.std.specs.Option.{option_to_list}
 use Rattle.page_base.specs.declared.numbers.PageId.{PageId}
 use Rattle.table_walk.specs.declared.plan.Edit.{Edit}
@@ -64,11 +65,6 @@ name_edits spot slot (i ∷ is) = record { spot = spot; slot = slot; names = Som
 abbrev pub root_edits : RootPage → List Edit
 root_edits r = front_edits r.spot r.slots r.next ++ name_edits r.spot (max r.slots 1) r.names
 
--- those of all
-abbrev pub chain_edits : List RootPage → List Edit
-chain_edits [] = []
-chain_edits (r ∷ rs) = root_edits r ++ chain_edits rs
-
 -- the root pages that change
 abbrev pub pages_in : Growth → List RootPage
 pages_in g = g.full ++ g.last ∷ []
@@ -86,3 +82,6 @@ pub record IsGrowing (spot : Spot) (count n : ℕ) (pending : List ℕ) (g : Gro
   pub many : length g.leaves ≡ n
   pub numbered : IsNumbering g.claims (pending ++ (g.leaves ++ root_claims (pages_in g)))
   pub room : g.room + slots_made g.last ≡ 1001
+  pub ascend : AllPairs (λ i j. i < j) g.leaves
+  pub above : (p c : ℕ) → 1 ≤ count_of p pending → 1 ≤ count_of c g.leaves → c < p
+  pub follow : (r : ℕ) → 1 ≤ count_of r (root_claims (pages_in g)) → (c : ℕ) × (r ≡ c + 1) × (1 ≤ count_of c (pending ++ g.leaves))

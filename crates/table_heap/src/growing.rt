@@ -98,7 +98,7 @@ impl Growth {
     // Claims a root page, which the last one names.
     fn add_root(&mut self, alloc: Global) -> Result<(), NoMemory>
         requires { self.old.room ≡ 0 }
-        ensures grows { (spot : Spot) (count n : ℕ) (pending : List ℕ) → IsGrowing spot count n pending self.old → OnOk result (IsGrowing spot count n pending self.new) }
+        ensures grows { (spot : Spot) (count n leaf : ℕ) → self.old.claims ≡ leaf + 1 → IsGrowing spot count n (leaf ∷ []) self.old → OnOk result (IsGrowing spot count n (leaf ∷ []) self.new) }
         ensures room { OnOk result (self.new.room ≡ 1000) }
     {
         let root = self.claim()?;
@@ -112,7 +112,7 @@ impl Growth {
 
     // Claims a root page where the last one has no room.
     fn make_room(&mut self, alloc: Global) -> Result<(), NoMemory>
-        ensures grows { (spot : Spot) (count n : ℕ) (pending : List ℕ) → IsGrowing spot count n pending self.old → OnOk result (IsGrowing spot count n pending self.new) }
+        ensures grows { (spot : Spot) (count n leaf : ℕ) → self.old.claims ≡ leaf + 1 → IsGrowing spot count n (leaf ∷ []) self.old → OnOk result (IsGrowing spot count n (leaf ∷ []) self.new) }
         ensures room { OnOk result (0 < self.new.room) }
     {
         if self.room == 0 {

@@ -2,7 +2,8 @@ use Rattle.std.proofs.Common.{◌≡◌, ◌+◌, ◌<◌, List, length, ap, sym
 use Rattle.std.specs.List.{All}
 use Rattle.table_heap.specs.Growth.{pages_in}
 use Rattle.table_heap.proofs.GrowingLemmas.{chain_short}
-use Rattle.table_heap.proofs.PlanningLemmas.{Counted, last_counted, numbered_all}
+use Rattle.table_heap.proofs.PlanningLemmas.{Counted, last_counted}
+use Rattle.table_heap.proofs.GrowLemmas.{numbered_all}
 use Rattle.table_heap.proofs.planning.planned.Goals as goal
 
 pub grown-requires-clause-some : goal.grown-requires-clause-some
