@@ -1,7 +1,7 @@
 -- After the edits of a plan each page of the heap has the slots that it is to have.
-use Rattle.std.proofs.Common.{refl, ◌≡◌, ◌≢◌, ℕ, zero, suc, ◌+◌, ◌-◌, ◌<◌, ◌≤◌, List, [], ◌∷◌, ◌++◌, length, get_or, map, take, ap, sym, ◌∙◌, subst, arith, Bool, true, length-append, inl, inr}
-use Rattle.std.specs.Prelude.{Some, ◌↔◌}
-use Rattle.std.specs.List.{All}
+use Rattle.std.proofs.Common.{refl, ◌≡◌, ◌≢◌, ℕ, zero, suc, ◌+◌, ◌-◌, ◌<◌, ◌≤◌, List, [], ◌∷◌, ◌++◌, length, get_or, map, take, ap, sym, ◌∙◌, subst, arith, max, Bool, true, length-append, inl, inr}
+use Rattle.std.specs.Prelude.{Option, None, Some, ◌↔◌}
+use Rattle.std.specs.List.{All, AllPairs}
 use Rattle.std.specs.Option.{option_to_list}
 use Rattle.std.proofs.lemmas.Bool.{cases_lt, cases_eq}
 use Rattle.std.proofs.lemmas.List.{get_or_append_left, get_or-append_right, get_or_past}
@@ -16,7 +16,7 @@ use Rattle.table_walk.specs.Plans.{place, after, Go, AreFree, AreWithin}
 use Rattle.table_walk.specs.Walk.{Reaches}
 use Rattle.table_heap.specs.declared.growing.RootPage.{RootPage}
 use Rattle.table_heap.specs.Emission.{leaf_spots, Makes, MakesAll}
-use Rattle.table_heap.specs.Growth.{count_of, IsNumbering, root_made, root_edits, IsChain, root_claims}
+use Rattle.table_heap.specs.Growth.{count_of, IsNumbering, root_made, front_edits, name_edits, root_edits, IsChain, root_claims}
 use Rattle.table_heap.specs.Shape.{Chain, visits_of, times, IsHeapOf}
 use Rattle.table_heap.proofs.GrowLemmas.{count_append, count_here, differ_grown, there_owned, count_at, numbered_below}
 use Rattle.table_heap.proofs.EmissionLemmas.{map_length, map_at}
@@ -24,7 +24,7 @@ use Rattle.table_heap.proofs.GrowChain.{NamedBefore, named_before, AreTargets}
 use Rattle.table_heap.proofs.GrowEdits.{Turns, turns_plain}
 use Rattle.table_heap.proofs.GrowRoot.{root_turns}
 use Rattle.table_heap.proofs.GrowTable.{last_page}
-use Rattle.table_heap.proofs.InTurn.{InTurn, go_in_turn}
+use Rattle.table_heap.proofs.InTurn.{InTurn, go_in_turn, pairs_append, AreApartEdits}
 use Rattle.table_heap.proofs.ShapeLemmas.{times_append, one_here, none_here}
 
 -- LISTS OF PAGES
@@ -93,6 +93,34 @@ module _ (claimed : ℕ → PageId) where
       news (j ∷ js) = ap (λ ps. claimed j ∷ ps) (news js)
   spots_pages (x ∷ xs) lc = ap (λ ps. x ∷ ps) (spots_pages xs lc)
 
+-- each edit of a root page is of another slot
+names_length : (spot : Spot) (slot : ℕ) (is : List ℕ) → length (name_edits spot slot is) ≡ length is
+names_length spot slot [] = refl
+names_length spot slot (i ∷ is) = ap (λ n. suc n) (names_length spot (slot + 1) is)
+
+names_slot : (spot : Spot) (slot : ℕ) (is : List ℕ) (k : ℕ) (d : Edit) → k < length is → (get_or (name_edits spot slot is) k d).slot ≡ slot + k
+names_slot spot slot [] k d h = absurd (omega arith)
+names_slot spot slot (i ∷ is) zero d h = omega arith
+names_slot spot slot (i ∷ is) (suc k) d h = omega (arith, names_slot spot (slot + 1) is k d (omega arith))
+
+front_one : (spot : Spot) (count : ℕ) (next : Option ℕ) → length (front_edits spot count next) ≤ 1
+front_one spot count (Some j) = omega arith
+front_one spot zero None = omega arith
+front_one spot (suc n) None = omega arith
+
+front_slot : (spot : Spot) (count : ℕ) (next : Option ℕ) (k : ℕ) (d : Edit) → k < length (front_edits spot count next) → (get_or (front_edits spot count next) k d).slot ≡ 0
+front_slot spot count (Some j) zero d h = refl
+front_slot spot count (Some j) (suc k) d h = absurd (omega arith)
+front_slot spot zero None zero d h = refl
+front_slot spot zero None (suc k) d h = absurd (omega arith)
+front_slot spot (suc n) None k d h = absurd (omega arith)
+
+root_once : (r : RootPage) → AllPairs (λ e f. e.slot ≢ f.slot) (root_edits r)
+root_once r =
+    pairs_append (λ e f. e.slot ≢ f.slot) (front_edits r.spot r.slots r.next) (name_edits r.spot (max r.slots 1) r.names) (λ i j d h l. absurd (omega (arith, front_one r.spot r.slots r.next)))
+    (λ i j d h l e. absurd (omega (arith, e, names_slot r.spot (max r.slots 1) r.names i d (omega (arith, names_length r.spot (max r.slots 1) r.names)), names_slot r.spot (max r.slots 1) r.names j d (omega (arith, names_length r.spot (max r.slots 1) r.names)))))
+    (λ i j d h l e. absurd (omega (arith, e, front_slot r.spot r.slots r.next i d h, names_slot r.spot (max r.slots 1) r.names j d (omega (arith, names_length r.spot (max r.slots 1) r.names)))))
+
 -- the last root page names what it names, and no other
 pub last_named : (at : SlotsAt) (front : List PageId) (last : PageId) (leaves : List PageId) → Chain at (front ++ last ∷ []) leaves → (olds : List PageId) × NamedBefore (at last) olds
 last_named at front last leaves c = let p = last_page at front last leaves c in (take 1000 p.0, named_before (at last) (take 1000 p.0) p.1)
@@ -104,6 +132,7 @@ pub record Emitted (at : SlotsAt) (owns : PageId → Bool) (claimed : ℕ → Pa
   pub changed : All (λ q. after claimed at edits (place claimed q.spot) ≡ root_made claimed (at (place claimed q.spot)) q) chain
   pub kept : (p : PageId) → 1 ≤ times p roots → p ≢ last → at p ≡ after claimed at edits p
   pub slots : map (after claimed at edits) (leaves ++ map claimed lc) ≡ news
+  pub once : AllPairs AreApartEdits edits
 
 module _ (at : SlotsAt) (owns : PageId → Bool) (root : PageId) (claimed : ℕ → PageId) (n : ℕ) (roots leaves front : List PageId) (last : PageId) (head : RootPage) (more : List RootPage) (lc : List ℕ) (news : List (List (List ℕ))) (order : List ℕ) (edits : List Edit)
     (h : IsHeapOf at root roots leaves) (owned : (p : PageId) → (owns p ≡ true) ↔ Reaches (visits_of root roots leaves) p) (free : AreFree claimed n at owns) (split : roots ≡ front ++ last ∷ []) (begins : head.spot ≡ Old last) (counted : head.slots ≡ length (at last))
@@ -193,6 +222,13 @@ module _ (at : SlotsAt) (owns : PageId → Bool) (root : PageId) (claimed : ℕ 
             (subst (λ x. Turns claimed x (at x) (made (get_or (head ∷ more) (i - length news) head)) (root_edits (get_or (head ∷ more) (i - length news) head))) p t))
       ]
 
+  singles : (i : ℕ) (es : List Edit) → 1 ≤ count_of i order → Makes (leaf_spots leaves lc) (map at leaves) news (head ∷ more) i es → AllPairs (λ e f. e.slot ≢ f.slot) es
+  singles i es some m =
+      elim (cases_lt i (length news)) as (λ _. AllPairs (λ e f. e.slot ≢ f.slot) es) [
+        | inl lt ↦ (m.leaf lt (Old root)).once
+        | inr ge ↦ subst (AllPairs (λ e f. e.slot ≢ f.slot)) (sym (m.root ge head)) (root_once (get_or (head ∷ more) (i - length news) head))
+      ]
+
   -- all pages differ
   root_times : (q : PageId) → times q (map root_page (head ∷ more)) + times q front ≡ times q (roots ++ map claimed rc)
   root_times q =
@@ -214,7 +250,7 @@ module _ (at : SlotsAt) (owns : PageId → Bool) (root : PageId) (claimed : ℕ 
 
   done : InTurn claimed (leaf_spots leaves lc) (map at leaves) news (head ∷ more) page (λ i. at (page i)) new at order edits
   done =
-      go_in_turn claimed (leaf_spots leaves lc) (map at leaves) news (head ∷ more) page (λ i. at (page i)) new order at edits makes turns (λ i some. refl)
+      go_in_turn claimed (leaf_spots leaves lc) (map at leaves) news (head ∷ more) page (λ i. at (page i)) new order at edits makes turns singles (λ i some. refl)
       (λ i j a b e. one_place (leaf_pages ++ map root_page (head ∷ more)) i j root once (omega (arith, placed i a, all_count)) (omega (arith, placed j b, all_count)) e) count_once
 
   in_order : (i : ℕ) → i < length news + length (head ∷ more) → 1 ≤ count_of i order
@@ -227,6 +263,7 @@ module _ (at : SlotsAt) (owns : PageId → Bool) (root : PageId) (claimed : ℕ 
   pub emitted : Emitted at owns claimed n roots leaves last (head ∷ more) lc news edits
   emitted = record {
     go = done.go;
+    once = done.once;
     within = done.within n owns (λ i some. there_owned at owns root claimed n roots leaves rc lc h owned free numbered (page i) (omega (arith, reached i some, root_times (page i))));
     changed = λ k d lt.
         let i : ℕ = length news + k in

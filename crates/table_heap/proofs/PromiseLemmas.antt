@@ -1,7 +1,7 @@
 -- What was planned is what a plan promises.
 use Rattle.std.proofs.Common.{refl, ◌≡◌, ℕ, ◌+◌, ◌<◌, ◌≤◌, List, [], ◌∷◌, ◌++◌, length, map, ap, sym, ◌∙◌, subst, arith, Bool, true, false, cond, inl, inr}
 use Rattle.std.specs.Prelude.{◌↔◌}
-use Rattle.std.specs.List.{All}
+use Rattle.std.specs.List.{All, AllPairs}
 use Rattle.std.proofs.lemmas.Bool.{cases_lt}
 use Rattle.std.proofs.lemmas.List.Elements.{All-head, All-tail}
 use Rattle.page_base.specs.declared.column.Column.{Column}
@@ -30,6 +30,7 @@ use Rattle.table_heap.proofs.EmissionLemmas.{map_length}
 use Rattle.table_heap.proofs.EmittedLemmas.{Emitted, emitted}
 use Rattle.table_heap.proofs.GrowRows.{LeavesOf, leaves_of, has_leaves_one}
 use Rattle.table_heap.proofs.GrowTable.{Grows, grown, LastRoot, last_root}
+use Rattle.table_heap.proofs.InTurn.{AreApartEdits}
 use Rattle.table_heap.proofs.LeafLemmas.{planned_rows}
 use Rattle.table_heap.proofs.PlanningLemmas.{look_none, last_or_end, Counted, last_counted, pages_read, slots_are_read}
 use Rattle.table_heap.proofs.PutLemmas.{planned_all, planned_length}
@@ -77,6 +78,7 @@ record Done (cols : List Column) (at : SlotsAt) (owns : PageId → Bool) (root :
   later : List Visit
   walk : IsWalk heap_kids (after claimed at edits) (first root) later []
   claims : AreClaimed claimed n before later
+  once : AllPairs AreApartEdits edits
 
 module _ (cols : List Column) (seen : List Looked) (root : PageId) (cut put : List (List Value)) (done : List Visit) (places : List ℕ) (news : List (List (List ℕ))) (index : Index) (n : ℕ) (edits : List Edit) (w : IsSeenWalk heap_kids seen (first root) done [])
     (read : places ≡ map (place_of seen) (leaves_in done))
@@ -158,6 +160,7 @@ module _ (cols : List Column) (seen : List Looked) (root : PageId) (cut put : Li
           leaves = all.has;
           later = all.done;
           walk = all.walk;
+          once = e.once;
           claims = record {
             leaves = p.growth.leaves;
             roots = root_claims (f.head ∷ f.more);
@@ -186,4 +189,5 @@ module _ (cols : List Column) (seen : List Looked) (root : PageId) (cut put : Li
         let was : t.0 ≡ before = walks-one heap_kids at (first root ∷ []) t.0 before t.1.walk.walks walk.walks in
         let is : d.later ≡ later = walks-one heap_kids (after claimed at edits) (first root ∷ []) d.later later d.walk.walks walk_later.walks in
         subst (λ vs. AreClaimed claimed n before vs) is (subst (λ vs. AreClaimed claimed n vs d.later) was d.claims);
+    once = λ at owns rows claimed t shows free. (all_done at owns rows claimed t shows free).once;
   }

@@ -46,7 +46,8 @@ pub record AreClaimed (claimed : ℕ → PageId) (n : ℕ) (before later : List 
   pub numbered : IsNumbering n (leaves ++ roots)
 
 -- Over pages that are a table, and whatever free pages are claimed, the edits carry the table to its rows without those
--- that are cut and with those that are put, and each row to its place; and the claimed pages are the new ones, in order.
+-- that are cut and with those that are put, and each row to its place; the claimed pages are the new ones, in order,
+-- and no slot is edited twice.
 pub record Promises (cols : List Column) (seen : List Looked) (root : PageId) (cut put : List (List Value)) (n : ℕ) (edits : List Edit) : Type 0 where
   pub carries : (at : SlotsAt) (owns : PageId → Bool) (rows : Rows) (claimed : ℕ → PageId) → RowsAt cols at owns root rows → Shows seen at → AreFree claimed n at owns
       → Carries heap_kids cols (first root) claimed n at owns edits (put_all cols put (cut_all cut rows))
@@ -54,3 +55,4 @@ pub record Promises (cols : List Column) (seen : List Looked) (root : PageId) (c
       → HasLeaves cols at root leaves → HasLeaves cols (after claimed at edits) root (put_rows cols put (cut_keys cols cut leaves))
   pub claims : (at : SlotsAt) (owns : PageId → Bool) (rows : Rows) (claimed : ℕ → PageId) (before later : List Visit) → RowsAt cols at owns root rows → Shows seen at → AreFree claimed n at owns
       → IsWalk heap_kids at (first root) before [] → IsWalk heap_kids (after claimed at edits) (first root) later [] → AreClaimed claimed n before later
+  pub once : (at : SlotsAt) (owns : PageId → Bool) (rows : Rows) (claimed : ℕ → PageId) → RowsAt cols at owns root rows → Shows seen at → AreFree claimed n at owns → AllPairs (λ e f. ¬ ((e.spot ≡ f.spot) × (e.slot ≡ f.slot))) edits
