@@ -1,6 +1,6 @@
 -- The edits of pages in an order, and what they make of the pages.
 use Rattle.std.proofs.Common.{refl, ◌≡◌, ℕ, zero, suc, ◌+◌, ◌-◌, ◌<◌, ◌≤◌, List, [], ◌∷◌, ◌++◌, length, get_or, map, take, ap, sym, ◌∙◌, subst, arith, append_assoc, length-append}
-use Rattle.std.proofs.lemmas.List.{append-nil, get_or_append_left, get_or-append_right, get_or_past, get_or_default, take_more}
+use Rattle.std.proofs.lemmas.List.{append-nil, get_or_append_left, get_or_default, take_more}
 use Rattle.page_fmt.specs.Seen.{Looked}
 use Rattle.table_walk.specs.declared.plan.Edit.{Edit}
 use Rattle.table_walk.specs.declared.plan.Spot.{Spot}
@@ -31,21 +31,9 @@ module _ (seen : List Looked) (d : Looked) (places claims : List ℕ) (leaf : �
   slots_old : leaf < length places → get_or (read_slots seen d places) leaf [] ≡ (get_or seen (get_or places leaf 0) d).slots
   slots_old h = map_at (λ i. (get_or seen i d).slots) places leaf 0 [] h
 
-  spot_new : (s : Spot) → length places ≤ leaf → leaf < length places + length claims → get_or (leaf_spots (read_pages seen d places) claims) leaf s ≡ New (get_or claims (leaf - length places) 0)
-  spot_new s h l =
-      let n : length (map Old (read_pages seen d places)) ≡ length places = map_length Old (read_pages seen d places) ∙ map_length (λ i. (get_or seen i d).page) places in
-      get_or-append_right (map Old (read_pages seen d places)) (map New claims) (length places) leaf s n h ∙ map_at New claims (leaf - length places) 0 s (omega arith)
-
-  slots_new : length places ≤ leaf → get_or (read_slots seen d places) leaf [] ≡ []
-  slots_new h = get_or_past (read_slots seen d places) leaf [] (omega (arith, map_length (λ i. (get_or seen i d).slots) places))
-
   pub adds_old : (s : Spot) (new : List (List ℕ)) (before after : List Edit) → leaf < length places → AddsPage (Old (get_or seen (get_or places leaf 0) d).page) (get_or seen (get_or places leaf 0) d).slots new before after
       → AddsPage (get_or (leaf_spots (read_pages seen d places) claims) leaf s) (get_or (read_slots seen d places) leaf []) new before after
   adds_old s new before after h a = subst (λ x. AddsPage x (get_or (read_slots seen d places) leaf []) new before after) (sym (spot_old s h)) (subst (λ x. AddsPage (Old (get_or seen (get_or places leaf 0) d).page) x new before after) (sym (slots_old h)) a)
-
-  pub adds_new : (s : Spot) (new : List (List ℕ)) (before after : List Edit) → length places ≤ leaf → leaf < length places + length claims → AddsPage (New (get_or claims (leaf - length places) 0)) [] new before after
-      → AddsPage (get_or (leaf_spots (read_pages seen d places) claims) leaf s) (get_or (read_slots seen d places) leaf []) new before after
-  adds_new s new before after h l a = subst (λ x. AddsPage x (get_or (read_slots seen d places) leaf []) new before after) (sym (spot_new s h l)) (subst (λ x. AddsPage (New (get_or claims (leaf - length places) 0)) x new before after) (sym (slots_new h)) a)
 
 -- EACH PAGE, AND ALL
 

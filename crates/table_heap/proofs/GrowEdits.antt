@@ -1,8 +1,6 @@
 -- Edits of one page, and of several: they go in turn, in whatever order the pages come.
-use Rattle.std.proofs.Common.{refl, ◌≡◌, ◌≢◌, ℕ, zero, suc, ◌<◌, ◌≤◌, List, [], ◌∷◌, ◌++◌, length, get_or, ap, sym, ◌∙◌, subst, arith, Bool, true, false, cond}
+use Rattle.std.proofs.Common.{refl, ◌≡◌, ◌≢◌, ℕ, ◌<◌, ◌≤◌, List, [], ◌∷◌, ◌++◌, length, ap, sym, ◌∙◌, subst, Bool, true, false, cond}
 use Rattle.std.specs.Prelude.{None}
-use Rattle.std.specs.List.{All}
-use Rattle.std.proofs.lemmas.List.Elements.{All-cons, All-head, All-tail}
 use Rattle.page_base.specs.declared.numbers.PageId.{PageId}
 use Rattle.page_base.specs.Pages.{set_at, is_page}
 use Rattle.page_fmt.specs.Edits.{edited, slot_at}
@@ -13,8 +11,6 @@ use Rattle.table_walk.specs.declared.plan.Edit.{Edit}
 use Rattle.table_walk.specs.declared.plan.Spot.{Spot}
 use Rattle.table_walk.specs.Differences.{ArePlain, PageGo, made_of, MakesPage}
 use Rattle.table_walk.specs.Plans.{place, named, bytes_of, slots_after, changed, after, Go, also, AreWithin}
-use Rattle.table_heap.specs.Shape.{times}
-use Rattle.table_heap.proofs.ShapeLemmas.{one_here}
 
 abbrev Slots : Type 0
 Slots = List (List ℕ)
@@ -175,61 +171,3 @@ module _ (claimed : ℕ → PageId) where
   pub within_join : (n : ℕ) (owns : PageId → Bool) (es fs : List Edit) → AreWithin claimed n owns es → AreWithin claimed n owns fs → AreWithin claimed n owns (es ++ fs)
   within_join n owns [] fs a b = b
   within_join n owns (e ∷ es) fs a b = (a.0, within_join n owns es fs a.1 b)
-
--- SEVERAL PAGES
-
--- the edits of one page
-pub record Part : Type 0 where
-  pub page : PageId
-  pub old : Slots
-  pub new : Slots
-  pub edits : List Edit
-
--- those of all pages, one page behind the other
-abbrev pub edits_of : List Part → List Edit
-edits_of [] = []
-edits_of (p ∷ ps) = p.edits ++ edits_of ps
-
-abbrev pub part_pages : List Part → List PageId
-part_pages [] = []
-part_pages (p ∷ ps) = p.page ∷ part_pages ps
-
--- what edits of different pages do
-pub record Carried (claimed : ℕ → PageId) (at : SlotsAt) (parts : List Part) : Type 0 where
-  pub go : Go claimed at (edits_of parts)
-  pub here : All (λ p. after claimed at (edits_of parts) p.page ≡ p.new) parts
-  pub others : (q : PageId) → times q (part_pages parts) ≡ 0 → after claimed at (edits_of parts) q ≡ at q
-
-part_times : (parts : List Part) (q : PageId) (k : ℕ) (d : Part) → k < length parts → (get_or parts k d).page ≡ q → 1 ≤ times q (part_pages parts)
-part_times [] q k d h e = absurd (omega arith)
-part_times (p ∷ ps) q zero d h e = omega (arith, one_here p.page q (times q (part_pages ps)) e)
-part_times (p ∷ ps) q (suc k) d h e = omega (arith, part_times ps q k d (omega arith) e)
-
-pub carried : (claimed : ℕ → PageId) (at : SlotsAt) (parts : List Part) → ((q : PageId) → times q (part_pages parts) ≤ 1) → All (λ p. at p.page ≡ p.old) parts → All (λ p. Turns claimed p.page p.old p.new p.edits) parts → Carried claimed at parts
-carried claimed at [] differ old turns = record { go = tt; here = λ k d h. absurd (omega arith); others = λ q h. refl }
-carried claimed at (p ∷ ps) differ old turns =
-    let t : Turns claimed p.page p.old p.new p.edits = All-head (λ (x : Part). Turns claimed x.page x.old x.new x.edits) p ps turns in
-    let e : at p.page ≡ p.old = All-head (λ (x : Part). at x.page ≡ x.old) p ps old in
-    let once : times p.page (part_pages ps) ≡ 0 = omega (arith, differ p.page, one_here p.page p.page (times p.page (part_pages ps)) refl) in
-    let next : SlotsAt = set_at at p.page p.new in
-    let rest : Carried claimed (set_at at p.page p.new) ps =
-    carried claimed (set_at at p.page p.new) ps (λ q. omega (arith, differ q))
-    (λ k d h. set_other claimed at p.page (get_or ps k d).page p.new (λ f. absurd (omega (arith, once, part_times ps p.page k d h (sym f)))) ∙ All-tail (λ (x : Part). at x.page ≡ x.old) p ps old k d h)
-    (All-tail (λ (x : Part). Turns claimed x.page x.old x.new x.edits) p ps turns) in
-    let first : after claimed at p.edits ≡ set_at at p.page p.new = after_page claimed at p.page p.old p.new p.edits t e in
-    let whole : after claimed at (p.edits ++ edits_of ps) ≡ after claimed (set_at at p.page p.new) (edits_of ps) = after_join claimed at p.edits (edits_of ps) ∙ ap (λ s. after claimed s (edits_of ps)) first in
-    record {
-      go = go_join claimed at p.edits (edits_of ps) (go_page claimed at p.page p.old p.new p.edits t e) (subst (λ s. Go claimed s (edits_of ps)) (sym first) rest.go);
-      here = subst (λ (s : SlotsAt). All (λ x. s x.page ≡ x.new) (p ∷ ps)) (sym whole)
-          (All-cons (λ (x : Part). after claimed (set_at at p.page p.new) (edits_of ps) x.page ≡ x.new) p ps (rest.others p.page once ∙ set_here claimed at p.page p.page p.new refl) rest.here);
-      others = λ q h.
-          let out : times q (part_pages ps) ≡ 0 = omega arith in
-          let ne : p.page ≢ q = λ f. absurd (omega (arith, one_here p.page q (times q (part_pages ps)) f)) in
-          ap (λ (s : SlotsAt). s q) whole ∙ rest.others q out ∙ set_other claimed at p.page q p.new ne;
-    }
-
-pub parts_within : (claimed : ℕ → PageId) (n : ℕ) (owns : PageId → Bool) (parts : List Part) → All (λ p. AreOn claimed p.page p.edits) parts → All (λ p. also owns claimed n p.page ≡ true) parts → AreWithin claimed n owns (edits_of parts)
-parts_within claimed n owns [] on e = tt
-parts_within claimed n owns (p ∷ ps) on e =
-    within_join claimed n owns p.edits (edits_of ps) (within_page claimed n owns p.page p.edits (All-head (λ (x : Part). AreOn claimed x.page x.edits) p ps on) (All-head (λ (x : Part). also owns claimed n x.page ≡ true) p ps e))
-    (parts_within claimed n owns ps (All-tail (λ (x : Part). AreOn claimed x.page x.edits) p ps on) (All-tail (λ (x : Part). also owns claimed n x.page ≡ true) p ps e))

@@ -28,10 +28,6 @@ count_other j i n ne = ap (λ b. cond {A = ℕ} b 1 0 + n) (ne_eqb j i ne) ∙ z
     zero_more : (n : ℕ) → 0 + n ≡ n
     zero_more n = omega arith
 
--- none are numbered yet
-pub numbering_begin : IsNumbering 0 []
-numbering_begin = record { each = λ i h. absurd (omega arith); below = λ i h. refl }
-
 -- the next number, put anywhere
 pub numbering_more : (n : ℕ) (xs ys zs : List ℕ) → IsNumbering n (xs ++ ys) → zs ≡ xs ++ n ∷ ys → IsNumbering (n + 1) zs
 numbering_more n xs ys zs h e = record {

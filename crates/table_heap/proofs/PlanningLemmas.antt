@@ -5,7 +5,6 @@ use Rattle.std.specs.List.{All, Any}
 use Rattle.std.proofs.lemmas.List.Elements.{All-nil, All-cons, All-head, All-tail}
 use Rattle.page_base.specs.declared.column.Column.{Column}
 use Rattle.page_fmt.proofs.SeenLemmas.{look-place}
-use Rattle.std.proofs.lemmas.Bool.{cases_lt}
 use Rattle.std.proofs.lemmas.List.{append-nil, take_more}
 use Rattle.page_base.specs.declared.numbers.PageId.{PageId}
 use Rattle.page_base.specs.Pages.{is_page}
@@ -18,10 +17,8 @@ use Rattle.table_walk.specs.Tables.{is_leaf, IsNoRow, IsNoRowOf, IsBadRow}
 use Rattle.table_walk.proofs.WalkLemmas.{page_at-place}
 use Rattle.table_walk.specs.Walk.{IsSeenWalk}
 use Rattle.table_heap.specs.Emission.{last_or, read_pages, read_slots}
-use Rattle.table_heap.specs.Growth.{count_of, IsNumbering}
 use Rattle.table_heap.specs.Heap.{heap_kids, first}
 use Rattle.table_heap.specs.Shape.{leaves_in, roots_in}
-use Rattle.table_heap.proofs.GrowLemmas.{count_here}
 use Rattle.table_heap.proofs.GrowTable.{LastRoot, last_root}
 use Rattle.table_heap.proofs.ShapeLemmas.{leaves_in-append, roots_in-append}
 
