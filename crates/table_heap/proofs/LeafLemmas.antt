@@ -13,7 +13,7 @@ abbrev pub is_there : List Column → Key → List Key → Bool
 is_there cols k [] = false
 is_there cols k (r ∷ rs) = same_key (key_of cols r) k || is_there cols k rs
 
-is_there-append : (cols : List Column) (k : Key) (xs ys : List Key) → is_there cols k (xs ++ ys) ≡ (is_there cols k xs || is_there cols k ys)
+pub is_there-append : (cols : List Column) (k : Key) (xs ys : List Key) → is_there cols k (xs ++ ys) ≡ (is_there cols k xs || is_there cols k ys)
 is_there-append cols k [] ys = refl
 is_there-append cols k (x ∷ xs) ys = ap (λ b. same_key (key_of cols x) k || b) (is_there-append cols k xs ys) ∙ assoc (same_key (key_of cols x) k) (is_there cols k xs) (is_there cols k ys)
   where

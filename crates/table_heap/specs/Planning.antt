@@ -1,5 +1,6 @@
 -- What a plan of a heap promises: the table of rows that it leaves, and the leaf and slot of each row.
-use Rattle.std.specs.Prelude.{Bool, ◌≡◌, ℕ, if◌then◌else◌, List, [], ◌∷◌, map}
+use Rattle.std.specs.Prelude.{Bool, ◌≡◌, ◌≢◌, All, ℕ, ◌++◌, ◌+◌, ◌≤◌, ◌<◌, if◌then◌else◌, List, [], ◌∷◌, map}
+use Rattle.std.specs.List.{AllPairs}
 use Rattle.page_base.specs.declared.column.Column.{Column}
 use Rattle.page_base.specs.declared.numbers.PageId.{PageId}
 use Rattle.page_base.specs.declared.value.Value.{Value}
@@ -12,28 +13,46 @@ use Rattle.table_walk.specs.Walk.{IsWalk}
 use Rattle.table_walk.specs.Tables.{is_leaf, IsSmall}
 use Rattle.table_walk.specs.Plans.{after, AreFree, Carries, cut_all, put_all}
 use Rattle.table_heap.specs.Heap.{heap_kids, first, RowsAt}
-use Rattle.table_heap.specs.Leaves.{Leaf, slots_of, cut_keys, put_rows}
+use Rattle.table_heap.specs.Growth.{count_of, IsNumbering}
+use Rattle.table_heap.specs.Shape.{leaves_in, roots_in}
+use Rattle.table_heap.specs.Leaves.{Leaf, slots_of, all_rows, cut_keys, put_rows}
 
--- a row that a plan may put
+-- a row that a plan may put: one of these columns, of which there are some, within the limits
 pub record MayPut (cols : List Column) (row : List Value) : Type 0 where
   pub of : IsRowOf cols row
   pub small : IsSmall cols row
+  pub some : row ≢ []
 
 -- the slots of the leaves, in the order of the walk
 abbrev pub leaf_slots : SlotsAt → List Visit → List (List (List ℕ))
 leaf_slots at [] = []
 leaf_slots at (v ∷ vs) = if is_leaf v then at v.page ∷ leaf_slots at vs else leaf_slots at vs
 
--- these are the leaves of the heap
-pub record HasLeaves (at : SlotsAt) (root : PageId) (leaves : List Leaf) : Type 0 where
+-- these are the leaves of the heap, and their rows are rows of these columns
+pub record HasLeaves (cols : List Column) (at : SlotsAt) (root : PageId) (leaves : List Leaf) : Type 0 where
   pub done : List Visit
   pub walk : IsWalk heap_kids at (first root) done []
   pub slots : leaf_slots at done ≡ map slots_of leaves
+  pub rows : All (MayPut cols) (all_rows leaves)
+
+-- which claimed page is which: new leaves in the order of their claims, and each new root page claimed right behind a leaf
+pub record AreClaimed (claimed : ℕ → PageId) (n : ℕ) (before later : List Visit) : Type 0 where
+  pub leaves : List ℕ
+  pub roots : List ℕ
+  pub leaves_are : leaves_in later ≡ leaves_in before ++ map claimed leaves
+  pub roots_are : roots_in later ≡ roots_in before ++ map claimed roots
+  pub ascend : AllPairs (λ i j. i < j) leaves
+  pub follow : (r : ℕ) → 1 ≤ count_of r roots → (c : ℕ) × (r ≡ c + 1) × (1 ≤ count_of c leaves)
+  pub numbered : IsNumbering n (leaves ++ roots)
 
 -- Over pages that are a table, and whatever free pages are claimed, the edits carry the table to its rows without those
--- that are cut and with those that are put, and each row to its place.
+-- that are cut and with those that are put, and each row to its place; the claimed pages are the new ones, in order,
+-- and no slot is edited twice.
 pub record Promises (cols : List Column) (seen : List Looked) (root : PageId) (cut put : List (List Value)) (n : ℕ) (edits : List Edit) : Type 0 where
   pub carries : (at : SlotsAt) (owns : PageId → Bool) (rows : Rows) (claimed : ℕ → PageId) → RowsAt cols at owns root rows → Shows seen at → AreFree claimed n at owns
       → Carries heap_kids cols (first root) claimed n at owns edits (put_all cols put (cut_all cut rows))
   pub places : (at : SlotsAt) (owns : PageId → Bool) (rows : Rows) (claimed : ℕ → PageId) (leaves : List Leaf) → RowsAt cols at owns root rows → Shows seen at → AreFree claimed n at owns
-      → HasLeaves at root leaves → HasLeaves (after claimed at edits) root (put_rows cols put (cut_keys cols cut leaves))
+      → HasLeaves cols at root leaves → HasLeaves cols (after claimed at edits) root (put_rows cols put (cut_keys cols cut leaves))
+  pub claims : (at : SlotsAt) (owns : PageId → Bool) (rows : Rows) (claimed : ℕ → PageId) (before later : List Visit) → RowsAt cols at owns root rows → Shows seen at → AreFree claimed n at owns
+      → IsWalk heap_kids at (first root) before [] → IsWalk heap_kids (after claimed at edits) (first root) later [] → AreClaimed claimed n before later
+  pub once : (at : SlotsAt) (owns : PageId → Bool) (rows : Rows) (claimed : ℕ → PageId) → RowsAt cols at owns root rows → Shows seen at → AreFree claimed n at owns → AllPairs (λ e f. ¬ ((e.spot ≡ f.spot) × (e.slot ≡ f.slot))) edits

@@ -18,7 +18,7 @@ use std::alloc::Global;
 use table_walk::{Find, SeenRefusal, Visit, Wants, rows_of, wants_of};
 
 // The visit of the first root page.
-fn first(root: PageId) -> Visit
+pub(crate) fn first(root: PageId) -> Visit
     ensures { result ≡ first root }
 {
     Visit {

@@ -8,6 +8,7 @@ use Rattle.page_fmt.proofs.CallerLemmas.{slot_at-edited_same, slot_at-edited_oth
 use Rattle.page_fmt.proofs.SlotLemmas.{LastIsFull-set_slot, length-set_slot, row_bytes-slot, get_or-set_slot_same}
 use Rattle.table_walk.specs.declared.plan.Edit.{Edit}
 use Rattle.table_walk.specs.declared.plan.Spot.{Spot}
+use Rattle.std.specs.List.{AllPairs}
 use Rattle.std.specs.Str.{bytes_eq}
 use Rattle.std.proofs.lemmas.Slice.Eq.{bytes_eq-Decides}
 use Rattle.table_walk.specs.Differences.{is_wanted, changes_at, page_changes, page_after, PageGoes, edit_at, ArePlain, PageGo, made_of, MakesPage, AddsPage}
@@ -323,11 +324,69 @@ edit_fits s i (b ∷ bs) old new ne =
     let same = ap length (get_or-set_slot_same s i (b ∷ bs)) in
     (omega arith, omega arith)
 
+-- each change is of another slot
+abbrev Distinct : List (ℕ × List ℕ) → Type 0
+Distinct [] = Unit {0}
+Distinct (c ∷ cs) = NoSlot c.0 cs × Distinct cs
+
+abbrev EachLacks : List (ℕ × List ℕ) → List (ℕ × List ℕ) → Type 0
+EachLacks [] ds = Unit {0}
+EachLacks (c ∷ cs) ds = NoSlot c.0 ds × EachLacks cs ds
+
+no_slot_append : (i : ℕ) (cs ds : List (ℕ × List ℕ)) → NoSlot i cs → NoSlot i ds → NoSlot i (cs ++ ds)
+no_slot_append i [] ds a b = b
+no_slot_append i (c ∷ cs) ds a b = (a.0, no_slot_append i cs ds a.1 b)
+
+distinct_append : (cs ds : List (ℕ × List ℕ)) → Distinct cs → Distinct ds → EachLacks cs ds → Distinct (cs ++ ds)
+distinct_append [] ds a b e = b
+distinct_append (c ∷ cs) ds a b e = (no_slot_append c.0 cs ds a.0 e.0, distinct_append cs ds a.1 b e.1)
+
+distinct_kind : (g : Bool) (old new : Slots) (i n : ℕ) → Distinct (changes_at g old new i n)
+distinct_kind g old new i zero = tt
+distinct_kind g old new i (suc n) =
+    elim (either (is_wanted g (get_or old i []) (get_or new i []))) [
+      | inl e ↦ subst Distinct (sym (take_it g old new i n e)) (no_slot_below g old new i (i + 1) n (omega arith), distinct_kind g old new (i + 1) n)
+      | inr e ↦ subst Distinct (sym (leave_it g old new i n e)) (distinct_kind g old new (i + 1) n)
+    ]
+
+not_later : (x y : List ℕ) → is_wanted false x y ≡ true → is_wanted true x y ≡ false
+not_later x y w =
+    elim (fate x y) [
+      | inl f ↦ f.later
+      | inr (inl f) ↦ f.later
+      | inr (inr f) ↦ let t : true ≡ false = sym w ∙ f.first in cc
+    ]
+
+lacks_kind : (old new : Slots) (i n k m : ℕ) → EachLacks (changes_at false old new i n) (changes_at true old new k m)
+lacks_kind old new i zero k m = tt
+lacks_kind old new i (suc n) k m =
+    elim (either (is_wanted false (get_or old i []) (get_or new i []))) [
+      | inl e ↦ subst (λ cs. EachLacks cs (changes_at true old new k m)) (sym (take_it false old new i n e)) (no_slot_unwanted true old new i k m (not_later (get_or old i []) (get_or new i []) e), lacks_kind old new (i + 1) n k m)
+      | inr e ↦ subst (λ cs. EachLacks cs (changes_at true old new k m)) (sym (leave_it false old new i n e)) (lacks_kind old new (i + 1) n k m)
+    ]
+
+distinct_page : (old new : Slots) → Distinct (page_changes old new)
+distinct_page old new =
+    distinct_append (changes_at false old new 0 (length old + length new)) (changes_at true old new 0 (length old + length new)) (distinct_kind false old new 0 (length old + length new)) (distinct_kind true old new 0 (length old + length new))
+    (lacks_kind old new 0 (length old + length new) 0 (length old + length new))
+
+slot_other : (spot : Spot) (i : ℕ) (cs : List (ℕ × List ℕ)) (j : ℕ) (d : Edit) → NoSlot i cs → j < length (map (edit_at spot) cs) → i ≢ (get_or (map (edit_at spot) cs) j d).slot
+slot_other spot i [] j d a h = absurd (omega arith)
+slot_other spot i (c ∷ cs) zero d a h = λ e. a.0 (sym e)
+slot_other spot i (c ∷ cs) (suc j) d a h = slot_other spot i cs j d a.1 (omega arith)
+
+distinct_edits : (spot : Spot) (cs : List (ℕ × List ℕ)) → Distinct cs → AllPairs (λ e f. e.slot ≢ f.slot) (map (edit_at spot) cs)
+distinct_edits spot [] a i j d h l = absurd (omega arith)
+distinct_edits spot (c ∷ cs) a i zero d h l = absurd (omega arith)
+distinct_edits spot (c ∷ cs) a zero (suc j) d h l = slot_other spot c.0 cs j d a.0 (omega arith)
+distinct_edits spot (c ∷ cs) a (suc i) (suc j) d h l = distinct_edits spot cs a.1 i j d (omega arith) (omega arith)
+
 pub planned : (spot : Spot) (old new : Slots) → FitsPage old → FitsPage new → MakesPage spot old new (map (edit_at spot) (page_changes old new))
 planned spot old new fo fn = record {
   are = all (page_changes old new);
   go = goes old (page_changes old new) fo.small (page_goes old new fo.small fn.small fo.last);
   made = after old (page_changes old new) ∙ page_made old new fo.last fn.last;
+  once = distinct_edits spot (page_changes old new) (distinct_page old new);
 }
   where
     all : (cs : List (ℕ × List ℕ)) → ArePlain spot (map (edit_at spot) cs)

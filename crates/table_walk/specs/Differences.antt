@@ -1,5 +1,6 @@
 -- The edits that make one page of another: one for each slot that differs, those that don't grow before those that do.
 use Rattle.std.specs.Prelude.{Bool, false, true, not, nat_lt, if◌then◌else◌, None, ◌≡◌, ◌≢◌, ℕ, zero, suc, ◌+◌, ◌<◌, ◌≤◌, List, [], ◌∷◌, ◌++◌, length, slice_index_or}
+use Rattle.std.specs.List.{AllPairs}
 use Rattle.std.specs.Str.{bytes_eq}
 use Rattle.page_fmt.specs.Edits.{edited, slot_at}
 use Rattle.page_fmt.specs.Spelling.{used}
@@ -28,11 +29,12 @@ abbrev pub made_of : List (List ℕ) → List Edit → List (List ℕ)
 made_of slots [] = slots
 made_of slots (e ∷ es) = made_of (edited slots e.slot e.bytes) es
 
--- the edits of a page go in turn, and make the new slots of the old ones
+-- the edits of a page go in turn, and make the new slots of the old ones; each is of another slot
 pub record MakesPage (spot : Spot) (old new : List (List ℕ)) (edits : List Edit) : Type 0 where
   pub are : ArePlain spot edits
   pub go : PageGo old edits
   pub made : made_of old edits ≡ new
+  pub once : AllPairs (λ e f. e.slot ≢ f.slot) edits
 
 -- such edits were put behind others
 pub record AddsPage (spot : Spot) (old new : List (List ℕ)) (before after : List Edit) : Type 0 where

@@ -9,8 +9,8 @@ use page_fmt::Seen;
 use std::alloc::Global;
 use std::collections::BTreeMap;
 
-// The first place of each page.
-pub(crate) fn page_index(alloc: Global, seen: &Seen) -> Result<BTreeMap<PageId, usize>, NoMemory>
+/// The first place of each page.
+pub fn page_index(alloc: Global, seen: &Seen) -> Result<BTreeMap<PageId, usize>, NoMemory>
     ensures { IfOk result (λ places. Indexes places seen.now) }
 {
     let mut places = BTreeMap::new(alloc);
@@ -24,8 +24,8 @@ pub(crate) fn page_index(alloc: Global, seen: &Seen) -> Result<BTreeMap<PageId, 
     Ok(places)
 }
 
-// The place of a page, if it was read.
-pub(crate) fn place(places: &BTreeMap<PageId, usize>, seen: &Seen, page: PageId) -> Option<usize>
+/// The place of a page, if it was read. Takes no memory.
+pub fn place(places: &BTreeMap<PageId, usize>, seen: &Seen, page: PageId) -> Option<usize>
     requires { Indexes places.now seen.now }
     ensures some { IfSome result (λ i. i ≡ place_of seen.now page) }
     ensures there { IfSome result (λ i. i < length seen.now) }

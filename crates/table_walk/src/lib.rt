@@ -17,6 +17,7 @@ mod visit;
 pub use address::{names_none, page_at};
 pub use differences::add_differences;
 pub use find::{Find, Wants};
+pub use index::{page_index, place};
 pub use key::{copy_row, key_of};
 pub use law::{
     addresses_are_read, plans_are_carried_on, plans_depend_on_owned_pages, rows_are_one,
@@ -26,5 +27,5 @@ pub use layout::{Layout, Walked, walk, wants_of};
 pub use plan::{Edit, EditList, Plan, Spot};
 pub use refusal::SeenRefusal;
 pub use row_map::RowMap;
-pub use rows::rows_of;
+pub use rows::{read_row, rows_of};
 pub use visit::{Visit, is_leaf};

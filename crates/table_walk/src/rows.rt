@@ -77,8 +77,8 @@ fn put_asked(
     rows.put(key, row)
 }
 
-// The row that a slot is.
-fn read_row(
+/// The row that a slot is.
+pub fn read_row(
     alloc: Global,
     cols: &Columns,
     page: PageId,

@@ -1,0 +1,6 @@
+use Rattle.std.proofs.Common.{◌≡◌, take, slice_index_or}
+use Rattle.page_fmt.specs.Seen.{Looked}
+use Rattle.table_heap.proofs.leaf.copied.Given as goal
+
+abbrev pub invariant-loop-j : goal.invariant-loop-j
+invariant-loop-j l = (d : Looked) → l.slots.items ≡ take l.j (slice_index_or l.seen l.i d).slots
