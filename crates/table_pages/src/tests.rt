@@ -9,7 +9,8 @@ ghost use Rattle.table_pages.specs.Trial.{IsReady, IsFirstFront};
 
 use crate::header::header;
 use crate::{
-    Edit, EditList, columns, find, has_key, is_blank, is_named, place, plan_change, plan_create, read_table,
+    Edit, EditList, columns, find, has_key, is_blank, is_named, place, plan_change, plan_create,
+    read_table,
 };
 use mem_dev::MemPages;
 use page_base::{
