@@ -11,7 +11,7 @@ use Rattle.plain_model.specs.declared.reply.Carried.{Carried}
 use Rattle.plain_model.specs.declared.reply.Carried.TheVariants.{Nothing}
 use Rattle.plain_model.specs.declared.reply.Message.{Message}
 use Rattle.plain_model.specs.declared.reply.Reply.{Reply}
-use Rattle.plain_model.specs.declared.reply.Reply.TheVariants.{Ok, Count, Msg}
+use Rattle.plain_model.specs.declared.reply.Reply.TheVariants.{Ok, Count, Rows, Msg}
 use Rattle.plain_model.specs.declared.stmt.SelectStmt.{SelectStmt}
 use Rattle.plain_model.specs.declared.stmt.Stmt.{Stmt}
 use Rattle.plain_model.specs.declared.stmt.Stmt.TheVariants.{CreateTable, Select}
@@ -36,7 +36,7 @@ use Rattle.engine_core.specs.declared.answer.Answer.TheVariants.{AtOnce, UnderAl
 use Rattle.engine_core.specs.declared.decision.Decision.{Decision}
 use Rattle.engine_core.specs.Causes.{IsForRows, IsRoomReply, IsNoFailure}
 use Rattle.engine_core.specs.Changing.{is_change}
-use Rattle.engine_core.specs.Deciding.{Setting, IsDecision, IsStill}
+use Rattle.engine_core.specs.Deciding.{Setting, IsDecision, IsStill, IsShort}
 use Rattle.engine_core.specs.Pushing.{snaps_of}
 use Rattle.engine_core.specs.Ready.{Seen, Comes, reply_of}
 use Rattle.engine_core.specs.Seeing.{unless_refused}
@@ -48,6 +48,12 @@ use Rattle.engine_core.proofs.SelectLemmas.{select_harmless, select_room, select
 
 pub msg_tables : (stmt : Stmt) (m : Message) (t : Tables) → tables_after stmt (Msg m) t ≡ t
 msg_tables stmt m t = refl
+
+short_none : (reply : Reply) → IsShort reply []
+short_none (Msg m) = λ _. refl
+short_none Ok = tt
+short_none (Count n) = tt
+short_none (Rows rs) = tt
 
 still_none : (answer : Answer) → IsStill answer []
 still_none (AtOnce reply) = refl
@@ -61,6 +67,7 @@ decides_only opening source current v seen stmt answer setting same simple room 
   comes = comes;
   simple = simple;
   still = still_none answer;
+  short = short_none (reply_of answer);
   carries = subst (λ (t : Tables). Carries v [] t) (sym same) setting.none;
   room = room;
   fine = fine;
@@ -102,6 +109,7 @@ module _ (opening : Opening) (v : Shown) (seen : Seen) (setting : Setting openin
       comes = made_comes opening opening.source seen (snaps_of v) refl name cols (some_columns cols definition) (ap is_new none);
       simple = tt;
       still = tt;
+      short = tt;
       carries = plan;
       room = room;
       fine = tt;
@@ -198,11 +206,19 @@ module _ (opening : Opening) (v : Shown) (seen : Seen) (setting : Setting openin
         | FillsNone m mild no_puts no_cuts reply ↦ subst IsNoFailure (sym reply) mild.1
       ]
 
+      short_made : (edits : List Edit) → IsShort effect.reply edits
+      short_made edits = elim filled [
+        | FillsPuts grows none reply ↦ subst (λ (r : Reply). IsShort r edits) (sym reply) tt
+        | FillsCuts grows none reply ↦ subst (λ (r : Reply). IsShort r edits) (sym reply) tt
+        | FillsNone m mild no_puts no_cuts reply ↦ subst (λ (r : Reply). IsShort r edits) (sym reply) (λ is. absurd (mild.0 is))
+      ]
+
       made_here : (edits : List Edit) → Planned v i (table_named stmt) t effect.cuts effect.puts (Some edits) → IsDecision opening opening.source v seen stmt (record { answer = UnderTable (table_named stmt) X effect.reply; edits = edits })
       made_here edits plan = record {
         comes = reply_comes opening opening.source seen (snaps_of v) refl stmt (table_named stmt) X (of_change stmt h) effect.reply shaped replies;
         simple = change_plain stmt effect.reply h;
         still = tt;
+        short = short_made edits;
         carries = subst (λ (x : Tables). Carries v edits x) (sym (after_change stmt effect seen.source h filled meant)) (plan.0.carries seen.source setting.none.says);
         room = room_is plan.1;
         fine = fine_is;

@@ -21,7 +21,9 @@ use Rattle.engine_core.specs.Ready.{reply_of}
 use Rattle.engine_core.specs.Stepping.{number, lock_events}
 use Rattle.engine_core.specs.Safe.{Run, Disk, seat_at, Safe}
 use Rattle.engine_core.specs.Doing.{Does}
-use Rattle.engine_core.specs.Causes.{HasPlace, IsRoomReply, IsVolumeReply, IsNoShortage, IsNoFailure, is_failure}
+use Rattle.engine_core.specs.Causes.{HasPlace, IsRoomReply, StaysShort, IsVolumeReply, IsNoShortage, IsNoFailure, is_failure}
+use Rattle.table_pages.specs.declared.edit.Edit.{Edit}
+use Rattle.engine_core.specs.Deciding.{IsShort}
 use Rattle.engine_core.specs.Creating.{Adds}
 use Rattle.engine_core.specs.Steps.{next_stmt, HasNext, IsOwn, Says}
 use Rattle.engine_core.proofs.SafeLemmas.{either}
@@ -33,6 +35,20 @@ roomy v stmt (Msg m) place h = λ is. absurd (h is)
 roomy v stmt Ok place h = place
 roomy v stmt (Count n) place h = place
 roomy v stmt (Rows rs) place h = place
+
+-- then it says nothing of what stays
+pub roomy_stays : (old new : Shown) (r : Reply) → IsNoShortage r → StaysShort old new r
+roomy_stays old new (Msg m) h = λ is. absurd (h is)
+roomy_stays old new Ok h = tt
+roomy_stays old new (Count n) h = tt
+roomy_stays old new (Rows rs) h = tt
+
+-- what edits nothing where there is no room leaves all as it was
+pub short_stays : (old new : Shown) (r : Reply) (edits : List Edit) → IsShort r edits → (edits ≡ [] → new ≡ old) → StaysShort old new r
+short_stays old new (Msg m) edits h still = λ is. still (h is)
+short_stays old new Ok edits h still = tt
+short_stays old new (Count n) edits h still = tt
+short_stays old new (Rows rs) edits h still = tt
 
 -- a reply that doesn't say that the volume failed
 pub unfailing : (before now : ℕ) (r : Reply) → IsNoFailure r → IsVolumeReply before now r
@@ -84,7 +100,7 @@ module _ (e : Run) (safe : Safe e) (i : ℕ) (next : HasNext e i) (old : Run) (i
   -- the session alone moved, and its reply stands last behind events of its own and turns
   module _ (disk : Disk) (told : disk.told ≡ e.disk.told) (failures : e.disk.failures ≤ disk.failures) (file_failures : e.disk.file_failures ≤ disk.file_failures) (v : Shown) (kept : Kept)
       (reply : Reply) (amid : List Event) (grows : kept.events ≡ e.kept.events ++ (amid ++ Said (number (i + 1)) ((seat_at e i).said + 1) (length e.kept.events) reply ∷ []))
-      (each : AllByRecursion (Amid (i + 1) e.shown v) amid) (room : IsRoomReply e.shown (next_stmt e i) reply) (volume : IsVolumeReply e.disk.failures disk.failures reply) where
+      (each : AllByRecursion (Amid (i + 1) e.shown v) amid) (room : IsRoomReply e.shown (next_stmt e i) reply) (short : StaysShort e.shown v reply) (volume : IsVolumeReply e.disk.failures disk.failures reply) where
     abbrev after : Seat → Run
     after s = record e { disk = disk; shown = v; seats = set e.seats i s; kept = kept }
 
@@ -102,6 +118,7 @@ module _ (e : Run) (safe : Safe e) (i : ℕ) (next : HasNext e i) (old : Run) (i
           reply = reply;
           enters = record { amid = amid; grows = grows; each = each };
           room = room;
+          short = short;
           volume = volume;
         })
 
@@ -112,7 +129,7 @@ module _ (e : Run) (safe : Safe e) (i : ℕ) (next : HasNext e i) (old : Run) (i
     says_here = subst (λ (b : Bool). Says old (after (record { current = seat.current; said = seat.said + 1; gone = b })) i) (sym (ap (λ (s : Seat). s.gone) seat_is ∙ here e safe i next)) (says_at seat.current)
 
   -- a statement whose answer was carried out
-  module _ (answer : Answer) (v : Shown) (kept : Kept) (does : Does (i + 1) ((seat_at e i).said + 1) answer e.kept kept e.shown v) (room : IsRoomReply e.shown (next_stmt e i) (reply_of answer)) (fine : IsNoFailure (reply_of answer)) where
+  module _ (answer : Answer) (v : Shown) (kept : Kept) (does : Does (i + 1) ((seat_at e i).said + 1) answer e.kept kept e.shown v) (room : IsRoomReply e.shown (next_stmt e i) (reply_of answer)) (short : StaysShort e.shown v (reply_of answer)) (fine : IsNoFailure (reply_of answer)) where
     abbrev amid_of : List Event
     amid_of = lock_events (i + 1) answer ++ does.turned
 
@@ -123,10 +140,10 @@ module _ (e : Run) (safe : Safe e) (i : ℕ) (next : HasNext e i) (old : Run) (i
     each_of = locks_amid (i + 1) e.shown v answer does.turned (turns_amid (i + 1) e.shown v does.turned does.each)
 
     pub says_answer : (e.disk.failures ≤ e.disk.failures) → (e.disk.file_failures ≤ e.disk.file_failures) → (current : List ℕ) → Says old (record e { shown = v; seats = set e.seats i (record { current = current; said = seat.said + 1; gone = false }); kept = kept }) i
-    says_answer f g current = says_at e.disk refl f g v kept (reply_of answer) amid_of grows_of each_of room (unfailing e.disk.failures e.disk.failures (reply_of answer) fine) current
+    says_answer f g current = says_at e.disk refl f g v kept (reply_of answer) amid_of grows_of each_of room short (unfailing e.disk.failures e.disk.failures (reply_of answer) fine) current
 
     pub says_seen : (e.disk.failures ≤ e.disk.failures) → (e.disk.file_failures ≤ e.disk.file_failures) → Says old (record e { shown = v; seats = set e.seats i (record { current = seat.current; said = seat.said + 1; gone = seat.gone }); kept = kept }) i
-    says_seen f g = says_here e.disk refl f g v kept (reply_of answer) amid_of grows_of each_of room (unfailing e.disk.failures e.disk.failures (reply_of answer) fine)
+    says_seen f g = says_here e.disk refl f g v kept (reply_of answer) amid_of grows_of each_of room short (unfailing e.disk.failures e.disk.failures (reply_of answer) fine)
 
   -- CREATE DATABASE
   pub says_cut : (disk : Disk) → disk.told ≡ e.disk.told → e.disk.failures ≤ disk.failures → e.disk.file_failures ≤ disk.file_failures → (v : Shown) (kept : Kept) → HasPlace e.shown (next_stmt e i) → Adds (i + 1) (seat.said + 1) e.disk disk e.kept kept →
@@ -134,4 +151,4 @@ module _ (e : Run) (safe : Safe e) (i : ℕ) (next : HasNext e i) (old : Run) (i
   says_cut disk told failures file_failures v kept place adds =
       says_here disk told failures file_failures v kept adds.reply adds.amid
       (adds.grows ∙ ap (λ (s : Seat). e.kept.events ++ (adds.amid ++ Said (number (i + 1)) (s.said + 1) (length e.kept.events) adds.reply ∷ [])) seat_is)
-      (cut_amid (i + 1) e.shown v adds.amid adds.cuts) (roomy e.shown (next_stmt e i) adds.reply place adds.room) adds.volume
+      (cut_amid (i + 1) e.shown v adds.amid adds.cuts) (roomy e.shown (next_stmt e i) adds.reply place adds.room) (roomy_stays e.shown v adds.reply adds.room) adds.volume

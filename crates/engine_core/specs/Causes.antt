@@ -50,6 +50,11 @@ abbrev pub IsRoomReply : Shown → Stmt → Reply → Type 0
 IsRoomReply v stmt (Msg m) = m.number ≡ 1105 → LacksRoom v stmt
 IsRoomReply v stmt reply = HasPlace v stmt
 
+-- where the reply says that there is no room, pages and snapshots are as they were
+abbrev pub StaysShort : Shown → Shown → Reply → Type 0
+StaysShort old new (Msg m) = m.number ≡ 1105 → new ≡ old
+StaysShort old new reply = Unit {0}
+
 -- 60021 comes only where the volume's count of faults rose
 abbrev pub IsVolumeReply : ℕ → ℕ → Reply → Type 0
 IsVolumeReply before now (Msg m) = m.number ≡ 60021 → Rose before now

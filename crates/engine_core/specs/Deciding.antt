@@ -4,6 +4,8 @@ use Rattle.page_base.specs.declared.numbers.SnapNo.{SnapNo}
 use Rattle.plain_model.specs.declared.stmt.Stmt.{Stmt}
 use Rattle.plain_model.specs.declared.stmt.Stmt.TheVariants.{Select, CreateSnap}
 use Rattle.plain_model.specs.declared.stmt.SelectStmt.{SelectStmt}
+use Rattle.plain_model.specs.declared.reply.Reply.{Reply}
+use Rattle.plain_model.specs.declared.reply.Reply.TheVariants.{Msg}
 use Rattle.plain_model.specs.Journal.{Opening}
 use Rattle.plain_model.specs.State.{master}
 use Rattle.plain_model.specs.Next.{is_built}
@@ -40,11 +42,17 @@ abbrev pub IsStill : Answer → List Edit → Type 0
 IsStill (AtOnce reply) edits = edits ≡ []
 IsStill answer edits = Unit {0}
 
+-- where there is no room nothing is edited
+abbrev pub IsShort : Reply → List Edit → Type 0
+IsShort (Msg m) edits = m.number ≡ 1105 → edits ≡ []
+IsShort reply edits = Unit {0}
+
 -- the answer is what comes of the statement, with its cause, and the edits carry the tables to what the answer makes of them
 pub record IsDecision (opening : Opening) (current : List ℕ) (v : Shown) (seen : Seen) (stmt : Stmt) (d : Decision) : Type 0 where
   pub comes : Comes opening current seen (snaps_of v) stmt d.answer
   pub simple : IsPlain stmt (reply_of d.answer)
   pub still : IsStill d.answer d.edits
+  pub short : IsShort (reply_of d.answer) d.edits
   pub carries : Carries v d.edits (tables_after stmt (reply_of d.answer) seen.source)
   pub room : IsRoomReply v stmt (reply_of d.answer)
   pub fine : IsNoFailure (reply_of d.answer)

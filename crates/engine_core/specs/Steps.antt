@@ -10,7 +10,7 @@ use Rattle.plain_model.specs.declared.event.Event.TheVariants.{Locked, CutAt, Sa
 use Rattle.plain_model.specs.State.{master}
 use Rattle.engine_core.specs.declared.seat.Seat.{Seat}
 use Rattle.engine_core.specs.Pushing.{IsTurn}
-use Rattle.engine_core.specs.Causes.{IsRoomReply, IsVolumeReply, is_failure}
+use Rattle.engine_core.specs.Causes.{IsRoomReply, StaysShort, IsVolumeReply, is_failure}
 use Rattle.engine_core.specs.Stepping.{number}
 use Rattle.engine_core.specs.Safe.{Run, seat_at, script_at}
 
@@ -55,7 +55,8 @@ pub record Enters (old new : Run) (k : ℕ) (last : Event) : Type 0 where
   pub each : AllByRecursion (λ event. IsOwn k event ⊎ IsTurn old.shown new.shown event) amid
 
 -- Session i + 1 answered its next statement. The reply stands last, with the length that the history had when the
--- statement began; that there is no room, or that the volume failed, is said only where it is so.
+-- statement began; that there is no room, or that the volume failed, is said only where it is so, and where there is no
+-- room pages and snapshots are as they were.
 pub record Says (old new : Run) (i : ℕ) : Type 0 where
   pub next : HasNext old i
   pub here : (seat_at old i).gone ≡ false
@@ -64,6 +65,7 @@ pub record Says (old new : Run) (i : ℕ) : Type 0 where
   pub reply : Reply
   pub enters : Enters old new (i + 1) (Said (number (i + 1)) ((seat_at old i).said + 1) (length old.kept.events) reply)
   pub room : IsRoomReply old.shown (next_stmt old i) reply
+  pub short : StaysShort old.shown new.shown reply
   pub volume : IsVolumeReply old.disk.failures new.disk.failures reply
 
 -- the seats of all other sessions are as they were

@@ -13,7 +13,7 @@ use Rattle.engine_core.specs.declared.seat.Seat.{Seat}
 use Rattle.engine_core.specs.Safe.{Run, Safe, AreTables, state, seen_by, seat_at}
 use Rattle.engine_core.specs.Steps.{next_stmt, HasNext}
 use Rattle.engine_core.proofs.CourseLemmas.{enough, few_events, own_seat, own_stmt, safe_answer}
-use Rattle.engine_core.proofs.SayingLemmas.{says_answer}
+use Rattle.engine_core.proofs.SayingLemmas.{short_stays, says_answer}
 use Rattle.engine_core.proofs.engine.Engine.answer.Goals as goal
 
 pub carry_out-requires : goal.carry_out-requires
@@ -78,4 +78,4 @@ returns g c =
     let decided = subst (λ (r : Run). IsDecision r.opening (seat_at r c.args.place).current r.shown (seen_by (state r)) (next_stmt r c.args.place) c.args.decision) is c.requires.1.1.1.1.0 in
     let seat_is = own_seat e safe c.args.place next c.index-seat.result.now c.index-seat.ensures in
     let does = subst (λ (s : Seat). Does (c.args.place + 1) (s.said + 1) c.args.decision.answer c.self.inside.ledger c.carry_out.new.ledger c.self.inside.pages c.carry_out.new.pages) seat_is c.carry_out.ensures.does in
-    says_answer e safe c.args.place next c.args.self.now c.self.view_is c.index-seat.result.now seat_is c.args.decision.answer c.carry_out.new.pages c.carry_out.new.ledger does decided.room decided.fine (omega arith) (omega arith) c.current_after-current.result
+    says_answer e safe c.args.place next c.args.self.now c.self.view_is c.index-seat.result.now seat_is c.args.decision.answer c.carry_out.new.pages c.carry_out.new.ledger does decided.room (short_stays e.shown c.carry_out.new.pages (reply_of c.args.decision.answer) c.args.decision.edits decided.short c.carry_out.ensures.still) decided.fine (omega arith) (omega arith) c.current_after-current.result

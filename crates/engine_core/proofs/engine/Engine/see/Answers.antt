@@ -10,7 +10,7 @@ use Rattle.engine_core.specs.Steps.{next_stmt, HasNext}
 use Rattle.engine_core.proofs.AnswerLemmas.{does_one}
 use Rattle.engine_core.proofs.PushLemmas.{leaves_of}
 use Rattle.engine_core.proofs.CourseLemmas.{enough, own_seat, own_stmt, safe_see}
-use Rattle.engine_core.proofs.SayingLemmas.{roomy, says_seen}
+use Rattle.engine_core.proofs.SayingLemmas.{roomy, roomy_stays, says_seen}
 use Rattle.engine_core.specs.Causes.{HasPlace}
 use Rattle.plain_model.specs.declared.stmt.Stmt.{Stmt}
 use Rattle.plain_model.specs.declared.reply.Reply.TheVariants.{Msg}
@@ -102,4 +102,4 @@ returns g c =
     let there : HasPlace e.shown (next_stmt e c.args.place) = subst (λ (x : Stmt). HasPlace e.shown x) (sym seeing.is) tt in
     says_seen e safe c.args.place next c.args.self.now c.self.view_is c.index-seat.result.now seat_is (AtOnce s.result) s.new.pages c.enter_reply.new.ledger
     (subst (λ (t : Seat). Does (c.args.place + 1) (t.said + 1) (AtOnce s.result) c.self.inside.ledger c.enter_reply.new.ledger c.self.inside.pages s.new.pages) seat_is does)
-    (roomy e.shown (next_stmt e c.args.place) s.result there s.ensures.room) s.ensures.volume (omega arith) (omega arith)
+    (roomy e.shown (next_stmt e c.args.place) s.result there s.ensures.room) (roomy_stays e.shown s.new.pages s.result s.ensures.room) s.ensures.volume (omega arith) (omega arith)
