@@ -1,16 +1,17 @@
 -- The chain of root pages after they name more leaves.
-use Rattle.std.proofs.Common.{refl, ◌≡◌, ℕ, suc, ◌+◌, ◌≤◌, List, [], ◌∷◌, ◌++◌, length, map, take, drop, max, ap, sym, ◌∙◌, subst, arith, true, None, Some, append_assoc, length-append, length-take}
+use Rattle.std.proofs.Common.{refl, ◌≡◌, ℕ, suc, ◌+◌, ◌*◌, ◌≤◌, List, [], ◌∷◌, ◌++◌, length, map, take, drop, max, ap, sym, ◌∙◌, subst, arith, true, None, Some, append_assoc, length-append, length-take}
 use Rattle.std.specs.List.{All}
 use Rattle.std.specs.Option.{option_to_list}
-use Rattle.std.proofs.lemmas.List.{append-nil, take_all, drop_all, take-append-drop, take-append-le, drop-append-le, take_at, drop_at}
+use Rattle.std.proofs.lemmas.List.{append-nil, take_all, drop_all, take-append-drop, take-append-le, drop-append-le, take_at, drop_at, drop-drop}
 use Rattle.std.proofs.lemmas.List.Elements.{All-head, All-tail}
 use Rattle.page_base.specs.declared.numbers.PageId.{PageId}
 use Rattle.page_fmt.specs.Seen.{SlotsAt}
 use Rattle.table_walk.specs.Addresses.{address, page_at, names_none, IsTarget}
 use Rattle.table_walk.specs.Plans.{place}
 use Rattle.table_walk.proofs.AddressLemmas.{page_at-address}
-use Rattle.table_heap.specs.Growth.{count_of, slot_0, root_made, IsChain, leaf_claims, root_claims}
+use Rattle.table_heap.specs.Growth.{count_of, slot_0, root_made, IsChain, leaf_claims, root_claims, AreFollowed}
 use Rattle.table_heap.specs.declared.growing.RootPage.{RootPage}
+use Rattle.table_heap.specs.Planning.{AreBehind}
 use Rattle.table_heap.specs.Shape.{Name, IsRootPage, Chain, times}
 use Rattle.table_heap.proofs.GrowLemmas.{count_append, count_here}
 use Rattle.table_heap.proofs.ShapeLemmas.{one_here}
@@ -114,6 +115,27 @@ module _ (claimed : ℕ → PageId) where
       ) in
       subst (λ ps. Chain other (place claimed r.spot ∷ map claimed (root_claims (r ∷ s ∷ rest))) ps) (sym all) (subst (λ js. Chain other (place claimed r.spot ∷ map claimed js) (first ++ later)) (sym roots) whole)
 
+  first_claimed : (xs : List ℕ) (c : ℕ) → take 1 xs ≡ c ∷ [] → take 1 (map claimed xs) ≡ claimed c ∷ []
+  first_claimed [] c e = absurd (omega (arith, ap length e))
+  first_claimed (x ∷ xs) c e = ap (map claimed) e
+
+  -- the root pages that it claims are behind the leaves that these name first
+  pub behind_made : (r : RootPage) (rest : List RootPage) (olds : List PageId) → 1 + length olds ≡ max r.slots 1 → IsChain (r ∷ rest) → AreFollowed (r ∷ rest) []
+      → AreBehind claimed (drop 1000 (olds ++ map claimed (leaf_claims (r ∷ rest)))) (root_claims (r ∷ rest))
+  behind_made r [] olds has c f =
+      let none : option_to_list r.next ++ [] ≡ [] = ap (λ o. option_to_list o ++ []) c.0 in
+      subst (AreBehind claimed (drop 1000 (olds ++ map claimed (leaf_claims (r ∷ []))))) (sym none) tt
+  behind_made r (s ∷ rest) olds has c f =
+      let first : List PageId = olds ++ map claimed r.names in
+      let later : List PageId = map claimed (leaf_claims (s ∷ rest)) in
+      let all : olds ++ map claimed (r.names ++ leaf_claims (s ∷ rest)) ≡ first ++ later = ap (λ ps. olds ++ ps) (map_append r.names (leaf_claims (s ∷ rest))) ∙ sym (append_assoc olds (map claimed r.names) later) in
+      let roots : root_claims (r ∷ s ∷ rest) ≡ (f.0 + 1) ∷ root_claims (s ∷ rest) = ap (λ o. option_to_list o ++ root_claims (s ∷ rest)) f.1 in
+      let many : length (olds ++ map claimed r.names) ≡ 1000 = omega (arith, has, c.4, length-append olds (map claimed r.names), map_length r.names) in
+      let tail : AreBehind claimed (drop 1000 later) (root_claims (s ∷ rest)) = behind_made s rest [] (omega (arith, c.3)) c.5 f.3 in
+      let here : AreBehind claimed later ((f.0 + 1) ∷ root_claims (s ∷ rest)) =
+      (f.0, refl, first_claimed (leaf_claims (s ∷ rest)) f.0 (subst (λ is. take 1 is ≡ f.0 ∷ []) (append-nil (leaf_claims (s ∷ rest))) f.2), tail) in
+      subst (λ ls. AreBehind claimed ls (root_claims (r ∷ s ∷ rest))) (sym (ap (drop 1000) all ∙ drop_at first later 1000 many)) (subst (AreBehind claimed later) (sym roots) here)
+
 -- the pages before stay as they are
 pub last_leaves : (at : SlotsAt) (last : PageId) (leaves : List PageId) → Chain at (last ∷ []) leaves → IsRootPage (at last) leaves []
 last_leaves at last leaves c = subst (λ ps. IsRootPage (at last) ps []) (sym (append-nil (take 1000 leaves)) ∙ ap (λ ps. take 1000 leaves ++ ps) (sym c.1) ∙ take-append-drop 1000 leaves) c.0
@@ -142,3 +164,16 @@ chain_grows at other (f ∷ fs) last rs leaves more c same grows =
           (subst (λ s. IsRootPage s (take 1000 leaves) (fs ++ last ∷ rs)) (same f (omega (arith, one_here f f (times f fs) refl))) (next_other (at f) (take 1000 leaves) fs last rs c.0)),
       subst (Chain other (fs ++ last ∷ rs)) (sym (drop-append-le 1000 leaves more long)) (chain_grows at other fs last rs (drop 1000 leaves) more c.1 (λ p h. same p (omega arith)) grows),
     )
+
+-- and the leaves that those name stand before the others
+pub behind_grows : (claimed : ℕ → PageId) (at : SlotsAt) (front : List PageId) (last : PageId) (rs : List ℕ) (leaves more : List PageId) → Chain at (front ++ last ∷ []) leaves
+    → ((olds : List PageId) → IsRootPage (at last) olds [] → AreBehind claimed (drop 1000 (olds ++ more)) rs) → AreBehind claimed (drop (1000 * length (front ++ last ∷ [])) (leaves ++ more)) rs
+behind_grows claimed at [] last rs leaves more c grows = grows leaves (last_leaves at last leaves c)
+behind_grows claimed at (f ∷ fs) last rs leaves more c grows =
+    let many : length (take 1000 leaves) ≡ 1000 = full_front (at f) (take 1000 leaves) fs last c.0 in
+    let long : 1000 ≤ length leaves = omega (arith, length-take 1000 leaves) in
+    let k : ℕ = length (fs ++ last ∷ []) in
+    let whole : 1000 + 1000 * k ≡ 1000 * suc k = omega arith in
+    let cut : drop (1000 * k) (drop 1000 leaves ++ more) ≡ drop (1000 * suc k) (leaves ++ more) =
+    ap (drop (1000 * k)) (sym (drop-append-le 1000 leaves more long)) ∙ drop-drop (1000 * k) 1000 (leaves ++ more) ∙ ap (λ m. drop m (leaves ++ more)) whole in
+    subst (λ ls. AreBehind claimed ls rs) cut (behind_grows claimed at fs last rs (drop 1000 leaves) more c.1 grows)

@@ -51,7 +51,7 @@ pub record IsAfter (cols : List Column) (other : SlotsAt) (owns : PageId → Boo
   pub leaves_are : leaves_in done ≡ leaves_in before ++ map claimed leaves
   pub roots_are : roots_in done ≡ roots_in before ++ map claimed roots
 
-root_length : (s : List (List ℕ)) (ls rs : List PageId) → IsRootPage s ls rs → length s ≡ 1 + length ls
+pub root_length : (s : List (List ℕ)) (ls rs : List PageId) → IsRootPage s ls rs → length s ≡ 1 + length ls
 root_length [] ls rs p = absurd p
 root_length (x ∷ xs) ls rs p = omega (arith, Name-length xs ls p.1)
 

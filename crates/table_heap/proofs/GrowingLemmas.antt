@@ -12,7 +12,7 @@ use Rattle.table_walk.specs.declared.plan.Spot.{Spot}
 use Rattle.table_walk.specs.declared.plan.Spot.TheVariants.{New}
 use Rattle.table_heap.specs.declared.growing.Growth.{Growth}
 use Rattle.table_heap.specs.declared.growing.RootPage.{RootPage}
-use Rattle.table_heap.specs.Growth.{count_of, IsNumbering, slots_made, IsChain, leaf_claims, root_claims, name_edits, pages_in, Begins, IsGrowing}
+use Rattle.table_heap.specs.Growth.{count_of, IsNumbering, slots_made, IsChain, leaf_claims, root_claims, AreFollowed, name_edits, pages_in, Begins, IsGrowing}
 use Rattle.table_heap.proofs.GrowLemmas.{count_append, count_here, count_other, count_at, numbered_below, numbering_more}
 
 -- CLAIMS
@@ -57,6 +57,42 @@ chain_short [] c = absurd c
 chain_short (r ∷ []) c = All-cons (λ (q : RootPage). slots_made q ≤ 1001) r [] c.1 (All-nil (λ (q : RootPage). slots_made q ≤ 1001))
 chain_short (r ∷ s ∷ rest) c = All-cons (λ (q : RootPage). slots_made q ≤ 1001) r (s ∷ rest) (omega (arith, c.4)) (chain_short (s ∷ rest) c.5)
 
+-- ROOT PAGES BEHIND LEAVES
+
+take_more_claims : (xs ys : List ℕ) (c : ℕ) → take 1 (xs ++ []) ≡ c ∷ [] → take 1 (xs ++ ys) ≡ c ∷ []
+take_more_claims [] ys c e = absurd (omega (arith, ap length e))
+take_more_claims (x ∷ xs) ys c e = e
+
+-- a claim that is still to be used comes last
+followed_claim : (rs : List RootPage) (ys : List ℕ) → AreFollowed rs [] → AreFollowed rs ys
+followed_claim [] ys f = tt
+followed_claim (r ∷ []) ys f = tt
+followed_claim (r ∷ s ∷ rest) ys f = (f.0, f.1, take_more_claims (leaf_claims (s ∷ rest)) ys f.0 f.2, followed_claim (s ∷ rest) ys f.3)
+
+claims_leaf : (full : List RootPage) (last made : RootPage) (leaf : ℕ) → made.names ≡ last.names ++ leaf ∷ [] → leaf_claims (full ++ last ∷ []) ++ leaf ∷ [] ≡ leaf_claims (full ++ made ∷ []) ++ []
+claims_leaf [] last made leaf e = ap (λ is. is ++ leaf ∷ []) (append-nil last.names) ∙ sym e ∙ sym (append-nil made.names) ∙ sym (append-nil (made.names ++ []))
+claims_leaf (r ∷ rs) last made leaf e =
+    append_assoc r.names (leaf_claims (rs ++ last ∷ [])) (leaf ∷ []) ∙ ap (λ is. r.names ++ is) (claims_leaf rs last made leaf e) ∙ sym (append_assoc r.names (leaf_claims (rs ++ made ∷ [])) [])
+
+-- the last page names the leaf that was still to be named
+followed_leaf : (full : List RootPage) (last made : RootPage) (leaf : ℕ) → made.names ≡ last.names ++ leaf ∷ [] → AreFollowed (full ++ last ∷ []) (leaf ∷ []) → AreFollowed (full ++ made ∷ []) []
+followed_leaf [] last made leaf e f = tt
+followed_leaf (r ∷ []) last made leaf e f = (f.0, f.1, subst (λ is. take 1 is ≡ f.0 ∷ []) (claims_leaf [] last made leaf e) f.2, tt)
+followed_leaf (r ∷ s ∷ rest) last made leaf e f = (f.0, f.1, subst (λ is. take 1 is ≡ f.0 ∷ []) (claims_leaf (s ∷ rest) last made leaf e) f.2, followed_leaf (s ∷ rest) last made leaf e f.3)
+
+claims_root : (full : List RootPage) (last made new : RootPage) → made.names ≡ last.names → new.names ≡ [] → leaf_claims (full ++ last ∷ []) ≡ leaf_claims ((full ++ made ∷ []) ++ new ∷ [])
+claims_root [] last made new names empty = λ k. sym names k ++ (sym empty k ++ [])
+claims_root (r ∷ rs) last made new names empty = ap (λ is. r.names ++ is) (claims_root rs last made new names empty)
+
+-- a page stands behind the last one, claimed right behind the leaf that is still to be named
+followed_root : (full : List RootPage) (last made new : RootPage) (pending : List ℕ) (leaf : ℕ) → made.names ≡ last.names → made.next ≡ Some (leaf + 1) → new.names ≡ [] → take 1 pending ≡ leaf ∷ [] → AreFollowed (full ++ last ∷ []) pending
+    → AreFollowed ((full ++ made ∷ []) ++ new ∷ []) pending
+followed_root [] last made new pending leaf names next empty first f = (leaf, next, subst (λ (is : List ℕ). take 1 ((is ++ []) ++ pending) ≡ leaf ∷ []) (sym empty) first, tt)
+followed_root (r ∷ []) last made new pending leaf names next empty first f =
+    (f.0, f.1, subst (λ is. take 1 (is ++ pending) ≡ f.0 ∷ []) (claims_root [] last made new names empty) f.2, followed_root [] last made new pending leaf names next empty first tt)
+followed_root (r ∷ s ∷ rest) last made new pending leaf names next empty first f =
+    (f.0, f.1, subst (λ is. take 1 (is ++ pending) ≡ f.0 ∷ []) (claims_root (s ∷ rest) last made new names empty) f.2, followed_root (s ∷ rest) last made new pending leaf names next empty first f.3)
+
 -- WHAT IS CLAIMED
 
 -- a claim that is still to be used
@@ -75,7 +111,7 @@ growing_claim spot count n g h i e =
         | inl same ↦ omega (arith, same, numbered_below g.claims c (g.leaves ++ root_claims (pages_in g)) i.numbered (omega (arith, there, count_append c g.leaves (root_claims (pages_in g)))))
         | inr ne ↦ absurd (omega (arith, here, count_other g.claims p 0 ne))
       ];
-      follow = λ r some. let f = i.follow r some in (f.0, f.1, omega (arith, f.2));
+      follow = followed_claim (pages_in g) (g.claims ∷ []) i.follow;
     } in
     subst (IsGrowing spot count n (g.claims ∷ [])) (sym e) made
 
@@ -92,10 +128,7 @@ growing_leaf spot count n leaf g leaves names i some is_leaves is_names =
       room = omega (arith, long, i.room);
       ascend = subst (AllPairs (λ j k. j < k)) (sym is_leaves) (all_pairs_push (λ j k. j < k) g.leaves leaf i.ascend (λ k d lt. i.above leaf (get_or g.leaves k d) (omega (arith, count_here leaf leaf 0 refl)) (count_at g.leaves k d lt)));
       above = λ p c here there. absurd (omega arith);
-      follow = λ r there.
-          let roots : count_of r (root_claims (g.full ++ made ∷ [])) ≡ count_of r (root_claims (g.full ++ g.last ∷ [])) = ap (count_of r) (root_claims_append g.full (made ∷ []) ∙ sym (root_claims_append g.full (g.last ∷ []))) in
-          let f = i.follow r (omega (arith, there, roots)) in
-          (f.0, f.1, omega (arith, f.2, ap (count_of f.0) is_leaves, count_append f.0 g.leaves (leaf ∷ [])));
+      follow = followed_leaf g.full g.last made leaf is_names i.follow;
     }
   where
     made : RootPage
@@ -117,7 +150,7 @@ growing_leaf spot count n leaf g leaves names i some is_leaves is_names =
         omega (arith, roots, count_append k leaves (root_claims (g.full ++ record { spot = g.last.spot; slots = g.last.slots; names = names; next = g.last.next } ∷ [])), ap (count_of k) is_leaves, count_append k g.leaves (leaf ∷ []), count_append k g.leaves (root_claims (g.full ++ g.last ∷ [])))
 
 -- the last root page names the next one
-pub growing_root : (spot : Spot) (count n : ℕ) (pending : List ℕ) (g : Growth) (claims : ℕ) (leaves : List ℕ) (full : List RootPage) (last : RootPage) (leaf : ℕ) → g.claims ≡ leaf + 1 → 1 ≤ count_of leaf pending → IsGrowing spot count n pending g → g.room ≡ 0 → claims ≡ g.claims + 1 → leaves ≡ g.leaves
+pub growing_root : (spot : Spot) (count n : ℕ) (pending : List ℕ) (g : Growth) (claims : ℕ) (leaves : List ℕ) (full : List RootPage) (last : RootPage) (leaf : ℕ) → g.claims ≡ leaf + 1 → take 1 pending ≡ leaf ∷ [] → IsGrowing spot count n pending g → g.room ≡ 0 → claims ≡ g.claims + 1 → leaves ≡ g.leaves
     → full ≡ g.full ++ record g.last { next = Some g.claims } ∷ [] → last ≡ record { spot = New g.claims; slots = 0; names = []; next = None }
     → IsGrowing spot count n pending (record { claims = claims; leaves = leaves; full = full; last = last; room = 1000 })
 growing_root spot count n pending g claims leaves full last leaf recent there i none is_claims is_leaves is_full is_last =
@@ -132,10 +165,7 @@ growing_root spot count n pending g claims leaves full last leaf recent there i 
       room = refl;
       ascend = i.ascend;
       above = i.above;
-      follow = λ r some. elim (cases_eq g.claims r) as (λ _. (c : ℕ) × (r ≡ c + 1) × (1 ≤ count_of c (pending ++ g.leaves))) [
-        | inl same ↦ (leaf, sym same ∙ recent, omega (arith, there, count_append leaf pending g.leaves))
-        | inr ne ↦ i.follow r (omega (arith, some, ap (count_of r) roots, count_append r (root_claims (g.full ++ g.last ∷ [])) (g.claims ∷ []), count_other g.claims r 0 ne))
-      ];
+      follow = followed_root g.full g.last made new pending leaf refl (ap Some recent) refl there i.follow;
     } in
     subst (IsGrowing spot count n pending) (λ k. record { claims = sym is_claims k; leaves = sym is_leaves k; full = sym is_full k; last = sym is_last k; room = 1000 }) whole
   where

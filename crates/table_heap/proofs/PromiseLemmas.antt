@@ -1,5 +1,5 @@
 -- What was planned is what a plan promises.
-use Rattle.std.proofs.Common.{refl, ◌≡◌, ℕ, ◌+◌, ◌<◌, ◌≤◌, List, [], ◌∷◌, ◌++◌, length, map, ap, sym, ◌∙◌, subst, arith, Bool, true, false, cond, inl, inr}
+use Rattle.std.proofs.Common.{refl, ◌≡◌, ℕ, ◌+◌, ◌*◌, ◌<◌, ◌≤◌, List, [], ◌∷◌, ◌++◌, length, map, drop, ap, sym, ◌∙◌, subst, arith, Bool, true, false, cond, inl, inr}
 use Rattle.std.specs.Prelude.{◌↔◌}
 use Rattle.std.specs.List.{All, AllPairs}
 use Rattle.std.proofs.lemmas.Bool.{cases_lt}
@@ -19,17 +19,18 @@ use Rattle.table_walk.proofs.WalkLemmas.{is_all, walks-one}
 use Rattle.table_heap.specs.declared.growing.Growth.{Growth}
 use Rattle.table_heap.specs.declared.growing.RootPage.{RootPage}
 use Rattle.table_heap.specs.Emission.{read_pages, read_slots, leaf_spots, MakesAll, last_or, IsPlanned}
-use Rattle.table_heap.specs.Growth.{count_of, IsNumbering, IsChain, leaf_claims, root_claims, pages_in, Begins}
+use Rattle.table_heap.specs.Growth.{IsNumbering, IsChain, leaf_claims, root_claims, AreFollowed, pages_in, Begins}
 use Rattle.table_heap.specs.Heap.{heap_kids, first, RowsAt}
 use Rattle.table_heap.specs.Leaves.{Leaf, slots_of, cut_keys, put_rows}
 use Rattle.table_heap.specs.Places.{Index, AreRows, AreApart, IsDraft}
-use Rattle.table_heap.specs.Planning.{MayPut, HasLeaves, AreClaimed, Promises}
-use Rattle.table_heap.specs.Shape.{visits_of, times, leaves_in, roots_in}
+use Rattle.table_heap.specs.Planning.{MayPut, HasLeaves, AreBehind, AreClaimed, Promises}
+use Rattle.table_heap.specs.Shape.{Chain, visits_of, times, leaves_in, roots_in}
 use Rattle.table_heap.proofs.ApartLemmas.{rows_are, apart_of}
 use Rattle.table_heap.proofs.EmissionLemmas.{map_length}
 use Rattle.table_heap.proofs.EmittedLemmas.{Emitted, emitted}
+use Rattle.table_heap.proofs.GrowChain.{behind_made, behind_grows}
 use Rattle.table_heap.proofs.GrowRows.{LeavesOf, leaves_of, has_leaves_one}
-use Rattle.table_heap.proofs.GrowTable.{Grows, grown, LastRoot, last_root}
+use Rattle.table_heap.proofs.GrowTable.{Grows, grown, LastRoot, last_root, root_length}
 use Rattle.table_heap.proofs.InTurn.{AreApartEdits}
 use Rattle.table_heap.proofs.LeafLemmas.{planned_rows}
 use Rattle.table_heap.proofs.PlanningLemmas.{look_none, last_or_end, Counted, last_counted, pages_read, slots_are_read}
@@ -153,6 +154,12 @@ module _ (cols : List Column) (seen : List Looked) (root : PageId) (cut put : Li
           keys = planned_rows cols cut put old.leaves rows old.keys;
         } in
         let all = grown cols at (after claimed at edits) owns root rows (put_all cols put (cut_all cut rows)) claimed n (made_of old.leaves) t free grows in
+        let new_roots : List ℕ = root_claims (f.head ∷ f.more) in
+        let new_leaves : List PageId = map claimed (leaf_claims (f.head ∷ f.more)) in
+        let followed : AreFollowed (f.head ∷ f.more) [] = subst (λ rs. AreFollowed rs []) f.is p.grows.follow in
+        let behind : AreBehind claimed (drop (1000 * length (l.front ++ l.last ∷ [])) (x.leaves ++ new_leaves)) new_roots =
+        behind_grows claimed at l.front l.last new_roots x.leaves new_leaves (subst (λ rs. Chain at rs x.leaves) (sym roots_are ∙ l.roots) x.heap.chain)
+        (λ olds page. behind_made claimed f.head f.more olds (omega (arith, counted, root_length (at l.last) olds [] page)) chain followed) in
         record {
           go = e.go;
           within = e.within;
@@ -167,7 +174,8 @@ module _ (cols : List Column) (seen : List Looked) (root : PageId) (cut put : Li
             leaves_are = all.leaves_are ∙ ap (λ is. leaves_in t.0 ++ map claimed is) claims;
             roots_are = all.roots_are;
             ascend = p.grows.ascend;
-            follow = λ r there. p.grows.follow r (subst (λ rs. 1 ≤ count_of r (root_claims rs)) (sym f.is) there);
+            follow = subst (λ rs. AreBehind claimed (drop (1000 * length rs) (leaves_in all.done)) new_roots) (sym l.roots)
+                (subst (λ ls. AreBehind claimed (drop (1000 * length (l.front ++ l.last ∷ [])) ls) new_roots) (sym (all.leaves_are ∙ ap (λ ls. ls ++ new_leaves) leaves_are)) behind);
             numbered = numbered;
           };
         }

@@ -1,5 +1,5 @@
 -- What becomes of the root pages of a heap that gets leaves: pages that are claimed, each by its number.
-use Rattle.std.specs.Prelude.{◌≡◌, ◌==◌, ◌<◌, ◌≤◌, if◌then◌else◌, Option, None, Some, ℕ, zero, suc, ◌+◌, max, List, [], ◌∷◌, ◌++◌, length, drop, map}
+use Rattle.std.specs.Prelude.{◌≡◌, ◌==◌, ◌<◌, ◌≤◌, if◌then◌else◌, Option, None, Some, ℕ, zero, suc, ◌+◌, max, List, [], ◌∷◌, ◌++◌, length, take, drop, map}
 use Rattle.std.specs.List.{AllPairs}
 use Rattle.std.specs.Option.{option_to_list}
 use Rattle.page_base.specs.declared.numbers.PageId.{PageId}
@@ -50,6 +50,12 @@ abbrev pub root_claims : List RootPage → List ℕ
 root_claims [] = []
 root_claims (r ∷ rs) = option_to_list r.next ++ root_claims rs
 
+-- each root page behind another is claimed right behind the first leaf that is named from it on; claims that are still to be used come last
+abbrev pub AreFollowed : List RootPage → List ℕ → Type 0
+AreFollowed [] pending = Unit {0}
+AreFollowed (r ∷ []) pending = Unit {0}
+AreFollowed (r ∷ s ∷ rest) pending = (c : ℕ) × (r.next ≡ Some (c + 1)) × (take 1 (leaf_claims (s ∷ rest) ++ pending) ≡ c ∷ []) × AreFollowed (s ∷ rest) pending
+
 -- the edit of its slot 0, where that changes: it names the next root page, or none on a page of no slots
 abbrev pub front_edits : Spot → ℕ → Option ℕ → List Edit
 front_edits spot count (Some j) = record { spot = spot; slot = 0; names = Some j; bytes = [] } ∷ []
@@ -84,4 +90,4 @@ pub record IsGrowing (spot : Spot) (count n : ℕ) (pending : List ℕ) (g : Gro
   pub room : g.room + slots_made g.last ≡ 1001
   pub ascend : AllPairs (λ i j. i < j) g.leaves
   pub above : (p c : ℕ) → 1 ≤ count_of p pending → 1 ≤ count_of c g.leaves → c < p
-  pub follow : (r : ℕ) → 1 ≤ count_of r (root_claims (pages_in g)) → (c : ℕ) × (r ≡ c + 1) × (1 ≤ count_of c (pending ++ g.leaves))
+  pub follow : AreFollowed (pages_in g) pending

@@ -1,5 +1,5 @@
 -- What a plan of a heap promises: the table of rows that it leaves, and the leaf and slot of each row.
-use Rattle.std.specs.Prelude.{Bool, ◌≡◌, ◌≢◌, All, ℕ, ◌++◌, ◌+◌, ◌≤◌, ◌<◌, if◌then◌else◌, List, [], ◌∷◌, map}
+use Rattle.std.specs.Prelude.{Bool, ◌≡◌, ◌≢◌, All, ℕ, ◌++◌, ◌+◌, ◌*◌, ◌<◌, if◌then◌else◌, List, [], ◌∷◌, length, take, drop, map}
 use Rattle.std.specs.List.{AllPairs}
 use Rattle.page_base.specs.declared.column.Column.{Column}
 use Rattle.page_base.specs.declared.numbers.PageId.{PageId}
@@ -13,7 +13,7 @@ use Rattle.table_walk.specs.Walk.{IsWalk}
 use Rattle.table_walk.specs.Tables.{is_leaf, IsSmall}
 use Rattle.table_walk.specs.Plans.{after, AreFree, Carries, cut_all, put_all}
 use Rattle.table_heap.specs.Heap.{heap_kids, first, RowsAt}
-use Rattle.table_heap.specs.Growth.{count_of, IsNumbering}
+use Rattle.table_heap.specs.Growth.{IsNumbering}
 use Rattle.table_heap.specs.Shape.{leaves_in, roots_in}
 use Rattle.table_heap.specs.Leaves.{Leaf, slots_of, all_rows, cut_keys, put_rows}
 
@@ -35,14 +35,19 @@ pub record HasLeaves (cols : List Column) (at : SlotsAt) (root : PageId) (leaves
   pub slots : leaf_slots at done ≡ map slots_of leaves
   pub rows : All (MayPut cols) (all_rows leaves)
 
--- which claimed page is which: new leaves in the order of their claims, and each new root page claimed right behind a leaf
+-- each of these root pages is claimed right behind the first leaf that it names, and there is one: 1,000 of these leaves for each, in order
+abbrev pub AreBehind : (ℕ → PageId) → List PageId → List ℕ → Type 0
+AreBehind claimed leaves [] = Unit {0}
+AreBehind claimed leaves (r ∷ rs) = (c : ℕ) × (r ≡ c + 1) × (take 1 leaves ≡ claimed c ∷ []) × AreBehind claimed (drop 1000 leaves) rs
+
+-- which claimed page is which: new leaves in the order of their claims, and each new root page right behind its first leaf
 pub record AreClaimed (claimed : ℕ → PageId) (n : ℕ) (before later : List Visit) : Type 0 where
   pub leaves : List ℕ
   pub roots : List ℕ
   pub leaves_are : leaves_in later ≡ leaves_in before ++ map claimed leaves
   pub roots_are : roots_in later ≡ roots_in before ++ map claimed roots
   pub ascend : AllPairs (λ i j. i < j) leaves
-  pub follow : (r : ℕ) → 1 ≤ count_of r roots → (c : ℕ) × (r ≡ c + 1) × (1 ≤ count_of c leaves)
+  pub follow : AreBehind claimed (drop (1000 * length (roots_in before)) (leaves_in later)) roots
   pub numbered : IsNumbering n (leaves ++ roots)
 
 -- Over pages that are a table, and whatever free pages are claimed, the edits carry the table to its rows without those
