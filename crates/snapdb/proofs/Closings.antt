@@ -5,9 +5,9 @@ use Rattle.std.specs.Io.KnownBytes.{Appends}
 use Rattle.page_dev.specs.Faults.{Rose}
 use Rattle.plain_model.specs.declared.event.Event.{Event}
 use Rattle.plain_model.specs.Printed.{printed}
-use Rattle.engine_core.specs.declared.closing.CloseEnd.{CloseEnd}
-use Rattle.engine_core.specs.declared.closing.CloseEnd.TheVariants.{Done, Fault}
-use Rattle.engine_core.specs.Closing.{IsFault}
+use Rattle.early_engine.specs.declared.closing.CloseEnd.{CloseEnd}
+use Rattle.early_engine.specs.declared.closing.CloseEnd.TheVariants.{Done, Fault}
+use Rattle.early_engine.specs.Closing.{IsFault}
 use Rattle.snapdb.specs.Headline.{IsTold, close_line}
 use Rattle.snapdb.specs.Closed.{told_text, status_of}
 

@@ -2,8 +2,8 @@
 use Rattle.std.specs.Prelude.{ℕ, List, ◌++◌}
 use Rattle.plain_model.specs.declared.event.Event.{Event}
 use Rattle.plain_model.specs.Printed.{printed}
-use Rattle.engine_core.specs.declared.closing.CloseEnd.{CloseEnd}
-use Rattle.engine_core.specs.declared.closing.CloseEnd.TheVariants.{Done, Fault}
+use Rattle.early_engine.specs.declared.closing.CloseEnd.{CloseEnd}
+use Rattle.early_engine.specs.declared.closing.CloseEnd.TheVariants.{Done, Fault}
 use Rattle.snapdb.specs.Headline.{close_line}
 
 -- the text of the history, and behind it the line of the file that wasn't put back, if there is one

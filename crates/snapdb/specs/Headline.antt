@@ -11,7 +11,7 @@ use Rattle.plain_model.specs.Legal.{Legal}
 use Rattle.plain_model.specs.Complete.{Complete}
 use Rattle.plain_model.specs.Order.{IsInOrder}
 use Rattle.plain_model.specs.Printed.{printed}
-use Rattle.engine_core.specs.Opened.{new_source}
+use Rattle.early_engine.specs.Opened.{new_source}
 use Rattle.script_read.specs.declared.refusal.Why.{Why}
 use Rattle.script_read.specs.Words.{text_of}
 use Rattle.script_read.specs.Script.{IsScript}

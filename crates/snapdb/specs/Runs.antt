@@ -3,10 +3,10 @@ use Rattle.std.specs.Prelude.{ℕ, List, Option}
 use Rattle.plain_model.specs.declared.stmt.Stmt.{Stmt}
 use Rattle.plain_model.specs.declared.pick.Pick.{Pick}
 use Rattle.plain_model.specs.declared.event.Event.{Event}
-use Rattle.engine_core.specs.declared.closing.CloseEnd.{CloseEnd}
-use Rattle.engine_core.specs.Opened.{names_of}
-use Rattle.engine_core.specs.Safe.{Disk}
-use Rattle.engine_core.specs.Played.{IsRun}
+use Rattle.early_engine.specs.declared.closing.CloseEnd.{CloseEnd}
+use Rattle.early_engine.specs.Opened.{names_of}
+use Rattle.early_engine.specs.Safe.{Disk}
+use Rattle.early_engine.specs.Played.{IsRun}
 use Rattle.script_read.specs.Script.{IsScript}
 use Rattle.snapdb.specs.Headline.{Reads, fresh}
 

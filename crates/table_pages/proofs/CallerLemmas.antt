@@ -14,8 +14,8 @@ use Rattle.page_fmt.specs.Edits.{edited, slot_at, LacksRoom}
 use Rattle.page_fmt.proofs.CallerLemmas.{content-blank}
 use Rattle.plain_model.specs.Tables.{Table, Tables}
 use Rattle.plain_model.specs.Sound.{is_definition}
-use Rattle.snap_pages.specs.Shown.{Shown, img, counts}
-use Rattle.snap_pages.specs.Slots.{slots_of}
+use Rattle.early_pages.specs.Shown.{Shown, img, counts}
+use Rattle.early_pages.specs.Slots.{slots_of}
 use Rattle.table_pages.specs.declared.edit.Edit.{Edit}
 use Rattle.table_pages.specs.Gathered.{Item, Skip, Bad, Has}
 use Rattle.table_pages.specs.Layout.{place, table_at, tables_of, IsBlankAt, IsPacked, IsOther, Passed}

@@ -16,8 +16,8 @@ use Rattle.page_fmt.specs.Edits.{slot_at}
 use Rattle.row_fmt.specs.Rows.{FitsColumns}
 use Rattle.plain_model.specs.Sound.{is_definition}
 use Rattle.plain_model.specs.Tables.{Rows, Table, Tables, Change, Put, Cut, changed, apply, with_row, without_key, key_of}
-use Rattle.snap_pages.specs.Shown.{Shown, img, IsThere}
-use Rattle.snap_pages.specs.Slots.{slots_of}
+use Rattle.early_pages.specs.Shown.{Shown, img, IsThere}
+use Rattle.early_pages.specs.Slots.{slots_of}
 use Rattle.table_pages.specs.declared.edit.Edit.{Edit}
 use Rattle.table_pages.specs.Gathered.{Has}
 use Rattle.table_pages.specs.Headers.{header_of}

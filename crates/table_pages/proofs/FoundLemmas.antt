@@ -5,8 +5,8 @@ use Rattle.std.specs.Str.{bytes_eq}
 use Rattle.page_fmt.specs.Content.{content}
 use Rattle.page_fmt.specs.Edits.{slot_at}
 use Rattle.plain_model.specs.Tables.{Table}
-use Rattle.snap_pages.specs.Shown.{Shown, img}
-use Rattle.snap_pages.specs.Slots.{slots_of}
+use Rattle.early_pages.specs.Shown.{Shown, img}
+use Rattle.early_pages.specs.Slots.{slots_of}
 use Rattle.table_pages.specs.Gathered.{Has}
 use Rattle.table_pages.specs.Layout.{place, table_at, IsBlankAt, IsOther}
 use Rattle.table_pages.specs.Carried.{Holds}

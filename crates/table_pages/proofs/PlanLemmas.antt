@@ -20,8 +20,8 @@ use Rattle.page_fmt.specs.Edits.{edited, slot_at}
 use Rattle.page_fmt.proofs.CallerLemmas.{IsPage-blank, content-blank, same_page}
 use Rattle.plain_model.specs.Tables.{Table, Tables, Add, Put, changed, applied, with_row, key_of}
 use Rattle.plain_model.specs.Sound.{is_definition}
-use Rattle.snap_pages.specs.Shown.{Shown, img, IsThere}
-use Rattle.snap_pages.specs.Slots.{slots_of}
+use Rattle.early_pages.specs.Shown.{Shown, img, IsThere}
+use Rattle.early_pages.specs.Slots.{slots_of}
 use Rattle.table_pages.specs.declared.edit.Edit.{Edit}
 use Rattle.table_pages.specs.Gathered.{Item, Skip, Bad, Has}
 use Rattle.table_pages.specs.Headers.{column_bytes, header, header_of}

@@ -8,9 +8,9 @@ use Rattle.page_base.specs.Pages.{blank, set_at}
 use Rattle.page_base.specs.Slots.{with_slot}
 use Rattle.page_fmt.specs.Content.{IsPage}
 use Rattle.page_fmt.proofs.CallerLemmas.{IsPage-blank}
-use Rattle.snap_pages.specs.Catalog.{Catalog, empty}
-use Rattle.snap_pages.specs.Shown.{Shown, img, counts, catalog}
-use Rattle.snap_pages.specs.Slots.{slots_of}
+use Rattle.early_pages.specs.Catalog.{Catalog, empty}
+use Rattle.early_pages.specs.Shown.{Shown, img, counts, catalog}
+use Rattle.early_pages.specs.Slots.{slots_of}
 use Rattle.table_pages.specs.declared.edit.Edit.{Edit}
 use Rattle.table_pages.specs.Layout.{place, IsPacked}
 use Rattle.table_pages.specs.Carried.{data_pages, IsHeaderEdit}

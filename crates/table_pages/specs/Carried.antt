@@ -3,8 +3,8 @@ use Rattle.std.specs.Prelude.{◌≡◌, ◌⊎◌, ℕ, ◌-◌, ◌<◌, List,
 use Rattle.page_fmt.specs.Content.{content}
 use Rattle.page_fmt.specs.Edits.{slot_at}
 use Rattle.page_base.specs.declared.column.Column.{Column}
-use Rattle.snap_pages.specs.Shown.{Shown, img, counts, IsThere}
-use Rattle.snap_pages.specs.Slots.{slots_of}
+use Rattle.early_pages.specs.Shown.{Shown, img, counts, IsThere}
+use Rattle.early_pages.specs.Slots.{slots_of}
 use Rattle.plain_model.specs.Tables.{Table, Tables}
 use Rattle.table_pages.specs.declared.edit.Edit.{Edit}
 use Rattle.table_pages.specs.Gathered.{Has}

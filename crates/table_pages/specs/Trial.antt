@@ -2,8 +2,8 @@
 use Rattle.std.specs.Prelude.{◌≡◌, ◌≢◌, ◌<◌, ℕ, []}
 use Rattle.page_base.specs.declared.numbers.PageId.{PageId}
 use Rattle.page_fmt.specs.Content.{IsPage}
-use Rattle.snap_pages.specs.Shown.{Shown, img, catalog}
-use Rattle.snap_pages.specs.Slots.{slots_of}
+use Rattle.early_pages.specs.Shown.{Shown, img, catalog}
+use Rattle.early_pages.specs.Slots.{slots_of}
 use Rattle.table_pages.specs.declared.edit.Edit.{Edit}
 use Rattle.table_pages.specs.Layout.{place, IsPacked}
 use Rattle.table_pages.specs.Carried.{data_pages, IsFirstBlank}

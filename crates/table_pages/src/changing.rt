@@ -5,8 +5,8 @@ ghost use Rattle.page_base.specs.declared.numbers.PageId.{PageId};
 ghost use Rattle.page_fmt.specs.Content.{content, IsPage};
 ghost use Rattle.row_fmt.specs.Rows.{FitsColumns};
 ghost use Rattle.plain_model.specs.Tables.{Table};
-ghost use Rattle.snap_pages.specs.Shown.{img};
-ghost use Rattle.snap_pages.specs.Slots.{slots_of};
+ghost use Rattle.early_pages.specs.Shown.{img};
+ghost use Rattle.early_pages.specs.Slots.{slots_of};
 ghost use Rattle.table_pages.specs.Layout.{place, IsPacked};
 ghost use Rattle.table_pages.specs.Drafts.{LacksRoom};
 ghost use Rattle.table_pages.specs.Plans.{Plans};
@@ -16,9 +16,9 @@ use crate::EditList;
 use crate::differing::differences;
 use crate::draft::drafted;
 use crate::finding::{image, place};
+use early_pages::SnapPages;
 use page_base::{Columns, NoMemory, RowList};
 use page_dev::PageFile;
-use snap_pages::SnapPages;
 use std::alloc::Global;
 
 /// The edits that cut keys from the table of page `i`, which has these columns, and then put rows into it, one at a time

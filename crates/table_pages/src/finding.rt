@@ -3,15 +3,15 @@
 ghost use Rattle.std.specs.Prelude.{◌≡◌, ◌<◌, None, Some, IfSome, IfNone, MatchOption};
 ghost use Rattle.std.specs.FinMap as finite;
 ghost use Rattle.plain_model.specs.Tables.{Table, Tables};
-ghost use Rattle.snap_pages.specs.Shown.{img};
-ghost use Rattle.snap_pages.specs.Slots.{slots_of};
+ghost use Rattle.early_pages.specs.Shown.{img};
+ghost use Rattle.early_pages.specs.Slots.{slots_of};
 ghost use Rattle.table_pages.specs.Layout.{place, IsPacked};
 ghost use Rattle.table_pages.specs.Carried.{data_pages, decoded, Holds, IsFull, IsFirstBlank};
 
 use crate::page::{is_blank, is_named};
+use early_pages::SnapPages;
 use page_base::{Image, Name, PageId};
 use page_dev::PageFile;
-use snap_pages::SnapPages;
 
 /// The page of table `i`, from 0.
 pub fn place(i: u32) -> PageId

@@ -6,17 +6,17 @@ ghost use Rattle.page_fmt.specs.Content.{IsPage};
 ghost use Rattle.page_base.specs.declared.numbers.PageId.{PageId};
 ghost use Rattle.plain_model.specs.Tables.{Tables, Add, applied};
 ghost use Rattle.plain_model.specs.Sound.{is_definition};
-ghost use Rattle.snap_pages.specs.Shown.{img};
-ghost use Rattle.snap_pages.specs.Slots.{slots_of};
+ghost use Rattle.early_pages.specs.Shown.{img};
+ghost use Rattle.early_pages.specs.Slots.{slots_of};
 ghost use Rattle.table_pages.specs.Layout.{IsPacked};
 ghost use Rattle.table_pages.specs.Carried.{data_pages, decoded, Carries, LacksPage, IsHeaderEdit};
 
 use crate::Edit;
 use crate::finding::{blank_page, place};
 use crate::header::header;
+use early_pages::SnapPages;
 use page_base::{Columns, Name, NoMemory};
 use page_dev::PageFile;
-use snap_pages::SnapPages;
 use std::alloc::Global;
 
 /// The bytes that are left to a single slot behind a page's header and the slot's offset.

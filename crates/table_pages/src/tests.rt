@@ -3,7 +3,7 @@
 ghost use Rattle.std.specs.Prelude.{◌≡◌, ◌<◌, ◌≤◌, ◌∷◌, [], true, IfOk, length};
 ghost use Rattle.plain_model.specs.Sound.{is_definition};
 ghost use Rattle.page_fmt.specs.Content.{IsPage};
-ghost use Rattle.snap_pages.specs.Shown.{counts};
+ghost use Rattle.early_pages.specs.Shown.{counts};
 ghost use Rattle.table_pages.specs.Carried.{data_pages};
 ghost use Rattle.table_pages.specs.Trial.{IsReady, IsFirstFront};
 
@@ -12,12 +12,12 @@ use crate::{
     Edit, EditList, columns, find, has_key, is_blank, is_named, place, plan_change, plan_create,
     read_table,
 };
+use early_pages::SnapPages;
 use mem_dev::MemPages;
 use page_base::{
     Bytes, ColType, Column, Columns, Image, Name, NoMemory, PageId, Row, RowList, Value,
 };
 use page_fmt::{check, put_slot};
-use snap_pages::SnapPages;
 use std::alloc::Global;
 use std::test::Fail;
 

@@ -1,11 +1,11 @@
 use Rattle.std.proofs.Common.{◌≡◌, ◌++◌, ◌∙◌, List, ap, sym, subst, refl, arith}
 use Rattle.std.specs.List.{list_any}
 use Rattle.plain_model.specs.declared.event.Event.{Event}
-use Rattle.engine_core.specs.Causes.{is_failure}
-use Rattle.engine_core.specs.Safe.{Disk}
-use Rattle.engine_core.specs.Schedules.{Plays}
+use Rattle.early_engine.specs.Causes.{is_failure}
+use Rattle.early_engine.specs.Safe.{Disk}
+use Rattle.early_engine.specs.Schedules.{Plays}
 use Rattle.plain_model.specs.declared.pick.Pick.{Pick}
-use Rattle.engine_core.proofs.CallerLemmas.{goes_further}
+use Rattle.early_engine.proofs.CallerLemmas.{goes_further}
 use Rattle.snapdb.proofs.top.run_scripts.Goals as goal
 
 pub returns-in-Ok-clause-failed : goal.returns-in-Ok-clause-failed

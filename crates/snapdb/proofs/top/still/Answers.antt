@@ -2,8 +2,8 @@ use Rattle.std.proofs.Common.{inl, inr, refl}
 use Rattle.snapdb.specs.Headline.{Usage, usage_line}
 use Rattle.snapdb.specs.Closed.{told_text}
 use Rattle.snapdb.specs.Runs.{Runs}
-use Rattle.engine_core.specs.declared.closing.CloseEnd.{CloseEnd}
-use Rattle.engine_core.specs.Disks.{disk_of}
+use Rattle.early_engine.specs.declared.closing.CloseEnd.{CloseEnd}
+use Rattle.early_engine.specs.Disks.{disk_of}
 use Rattle.snapdb.proofs.Refusals.{writes_line, writes_front}
 use Rattle.snapdb.proofs.Closings.{tells_done, tells_close, may_be_told}
 use Rattle.snapdb.proofs.top.still.Goals as goal

@@ -1,7 +1,7 @@
 use Rattle.std.proofs.Common.{◌∙◌, ◌≡◌, List, ℕ, ap, sym, subst}
 use Rattle.std.specs.Prelude.{None}
 use Rattle.page_fmt.specs.Content.{content}
-use Rattle.snap_pages.specs.Shown.{img}
+use Rattle.early_pages.specs.Shown.{img}
 use Rattle.table_pages.specs.Layout.{place}
 use Rattle.table_pages.proofs.ChangeLemmas.{plans, call_some, call_rows, call_fits, call_lacks, call_drafted, call_differs}
 use Rattle.table_pages.proofs.changing.plan_change.Goals as goal

@@ -1,6 +1,6 @@
 use Rattle.std.proofs.Common.{◌<◌, ℕ}
-use Rattle.snap_pages.specs.Shown.{img}
-use Rattle.snap_pages.specs.Slots.{slots_of}
+use Rattle.early_pages.specs.Shown.{img}
+use Rattle.early_pages.specs.Slots.{slots_of}
 use Rattle.table_pages.specs.Layout.{IsBlankAt}
 use Rattle.table_pages.proofs.finding.blank_page.Given as goal
 

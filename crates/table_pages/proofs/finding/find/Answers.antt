@@ -1,6 +1,6 @@
 use Rattle.std.proofs.Common.{true, arith}
-use Rattle.snap_pages.specs.Shown.{img}
-use Rattle.snap_pages.specs.Slots.{slots_of}
+use Rattle.early_pages.specs.Shown.{img}
+use Rattle.early_pages.specs.Slots.{slots_of}
 use Rattle.table_pages.specs.Carried.{data_pages}
 use Rattle.table_pages.proofs.CallerLemmas.{passed_none, passed_more, passed_all, passed_to_blank, found_named}
 use Rattle.table_pages.proofs.FoundLemmas.{is_blank, isnt_blank, named, is_other}

@@ -1,5 +1,5 @@
-use Rattle.snap_pages.specs.Shown.{img}
-use Rattle.snap_pages.specs.Slots.{slots_of}
+use Rattle.early_pages.specs.Shown.{img}
+use Rattle.early_pages.specs.Slots.{slots_of}
 use Rattle.table_pages.specs.Layout.{Passed}
 use Rattle.table_pages.proofs.finding.find.Given as goal
 

@@ -1,5 +1,5 @@
 use Rattle.std.proofs.Common.{◌≡◌}
-use Rattle.snap_pages.specs.Shown.{counts}
+use Rattle.early_pages.specs.Shown.{counts}
 use Rattle.table_pages.specs.Trial.{IsReady}
 use Rattle.table_pages.proofs.tests.carry_all.Given as goal
 

@@ -1,6 +1,0 @@
-use Rattle.std.proofs.Common.{◌≡◌, ◌≤◌}
-use Rattle.snap_pages.specs.Sparse.{copied_groups}
-use Rattle.snap_pages.proofs.sparse_set.SparseSet.size_on_disk.Given as goal
-
-abbrev pub invariant-loop-group : goal.invariant-loop-group
-invariant-loop-group g l = (l.groups ≡ copied_groups l.self l.file l.group) × (l.groups ≤ l.group)

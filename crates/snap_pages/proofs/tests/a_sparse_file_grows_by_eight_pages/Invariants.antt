@@ -1,5 +1,0 @@
-use Rattle.std.proofs.Common.{◌≡◌, ◌∷◌, []}
-use Rattle.snap_pages.proofs.tests.a_sparse_file_grows_by_eight_pages.Given as goal
-
-abbrev pub invariant-loop-page : goal.invariant-loop-page
-invariant-loop-page g l = l.set.files.counts ≡ 16 ∷ []
