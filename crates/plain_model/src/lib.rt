@@ -18,6 +18,6 @@ pub use pick::{Pick, PickList, Until};
 pub use reply::{Carried, Message, Reply};
 pub use scripts::{Scripts, StmtList};
 pub use stmt::{
-    DeleteStmt, ExprList, ExprRows, InsertStmt, Items, Names, OrderItem, OrderList, SelectStmt,
-    SetItem, SetList, SnapFile, SnapFiles, Stmt, Sum, SumList, UpdateStmt,
+    DeleteStmt, ExprList, ExprRows, InsertStmt, Items, Level, Names, OrderItem, OrderList,
+    SelectStmt, SetItem, SetList, SnapFile, SnapFiles, Stmt, Sum, SumList, UpdateStmt,
 };

@@ -92,6 +92,15 @@ pub struct SnapFile {
 /// The files of a new snapshot.
 pub type SnapFiles = ListOf<SnapFile>;
 
+/// How long a session's transaction keeps the locks that its reads gained.
+#[derive(Clone, Copy, Debug, PartialEq, Eq)]
+pub enum Level {
+    /// READ COMMITTED: to the statement's reply.
+    Committed,
+    /// SERIALIZABLE: to the transaction's end.
+    Serial,
+}
+
 /// A statement. The columns of a CREATE TABLE are empty where the definition is a bad one.
 /// `Broken` stands for a batch that isn't in the grammar, with the place where it breaks.
 #[derive(Debug, Drop)]
@@ -107,6 +116,7 @@ pub enum Stmt {
     Commit,
     Rollback,
     LockTimeoutZero,
+    SetLevel(Level),
     CreateSnap {
         snap: Name,
         files: SnapFiles,
