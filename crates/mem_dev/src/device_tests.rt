@@ -471,7 +471,7 @@ fn page_written<F: PageFile>(file: &mut F, n: u32, from: &Image) -> Result<(), F
 
 // That no read or write of a page fails follows from the count alone, which is always 0.
 fn sure_page(file: &mut SurePages, n: u32, image: &mut Image)
-    requires { n < length file.old }
+    requires { n < length file.old.pages }
 {
     page_read(file, n, image).unwrap();
     page_written(file, n, image).unwrap();
