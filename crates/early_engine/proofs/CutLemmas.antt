@@ -12,6 +12,7 @@ use Rattle.plain_model.specs.declared.stmt.SnapFile.{SnapFile}
 use Rattle.plain_model.specs.declared.reply.Message.{Message}
 use Rattle.plain_model.specs.declared.reply.Reply.{Reply}
 use Rattle.plain_model.specs.declared.reply.Reply.TheVariants.{Msg}
+use Rattle.plain_model.specs.declared.reply.TheConstants.Message.{DATABASE_IS_THERE, FILE_LIST, NOT_THE_SOURCE, NO_DATABASE}
 use Rattle.plain_model.specs.Journal.{Opening}
 use Rattle.plain_model.specs.State.{Session, session, is_source, is_restoring, fresh_session}
 use Rattle.plain_model.specs.Messages.{plain}
@@ -79,8 +80,8 @@ module _ (source file : List ℕ) (disk : Disk) (v : Shown) (snap : List ℕ) (f
     there_new : is_database (state e) snap ≡ is_there new
     there_new = there_is e.opening (catalog v) ordered apart_here (state e) asked.safe.machine.opened snaps_are snap new (subst (λ (s : List ℕ). Means s (catalog v) snap new) (sym asked.source_is) means)
 
-    pub refused_1801 : is_there new ≡ true → Allowed (state e) (i + 1) stmt (Msg (plain 1801))
-    refused_1801 holds = let t = there_new ∙ holds in let d = outside in inl (start ∙ (rw (d, t) refl))
+    pub refused_taken : is_there new ≡ true → Allowed (state e) (i + 1) stmt (Msg (plain DATABASE_IS_THERE))
+    refused_taken holds = let t = there_new ∙ holds in let d = outside in inl (start ∙ (rw (d, t) refl))
 
     module _ (from : Database) (home : Means source (catalog v) of from) (free : is_there new ≡ false) where
       home_means : Means e.opening.source (catalog v) of from
@@ -99,7 +100,7 @@ module _ (source file : List ℕ) (disk : Disk) (v : Shown) (snap : List ℕ) (f
       listed = ap (λ (o : Opening). is_each_once (logical_names files) o.files) asked.safe.machine.opened ∙ ap (is_each_once (logical_names files)) asked.files_are
 
       -- the refusals of names
-      pub names_say : (n : Next) → unless (no_snap (state e) (i + 1) snap files of) n ≡ cond (not (is_there from)) (Replies (Msg (plain 911))) (cond (not (is_home from)) (Replies (Msg (plain 60003))) (cond (not (is_each_once (logical_names files) (file ∷ []))) (Replies (Msg (plain 60004))) n))
+      pub names_say : (n : Next) → unless (no_snap (state e) (i + 1) snap files of) n ≡ cond (not (is_there from)) (Replies (Msg (plain NO_DATABASE))) (cond (not (is_home from)) (Replies (Msg (plain NOT_THE_SOURCE))) (cond (not (is_each_once (logical_names files) (file ∷ []))) (Replies (Msg (plain FILE_LIST))) n))
       names_say n =
           let d = outside in
           let t = there_new ∙ free in
@@ -109,14 +110,14 @@ module _ (source file : List ℕ) (disk : Disk) (v : Shown) (snap : List ℕ) (f
           let l = listed in
           rw (d, t, s, f, h, l) refl
 
-      pub refused_911 : is_there from ≡ false → Allowed (state e) (i + 1) stmt (Msg (plain 911))
-      refused_911 lacks = inl (start ∙ names_say _ ∙ (rw lacks refl))
+      pub refused_absent : is_there from ≡ false → Allowed (state e) (i + 1) stmt (Msg (plain NO_DATABASE))
+      refused_absent lacks = inl (start ∙ names_say _ ∙ (rw lacks refl))
 
-      pub refused_60003 : is_there from ≡ true → is_home from ≡ false → Allowed (state e) (i + 1) stmt (Msg (plain 60003))
-      refused_60003 holds lacks = inl (start ∙ names_say _ ∙ (rw (holds, lacks) refl))
+      pub refused_elsewhere : is_there from ≡ true → is_home from ≡ false → Allowed (state e) (i + 1) stmt (Msg (plain NOT_THE_SOURCE))
+      refused_elsewhere holds lacks = inl (start ∙ names_say _ ∙ (rw (holds, lacks) refl))
 
-      pub refused_60004 : is_there from ≡ true → is_home from ≡ true → is_each_once (logical_names files) (file ∷ []) ≡ false → Allowed (state e) (i + 1) stmt (Msg (plain 60004))
-      refused_60004 holds there lacks = inl (start ∙ names_say _ ∙ (rw (holds, there, lacks) refl))
+      pub refused_list : is_there from ≡ true → is_home from ≡ true → is_each_once (logical_names files) (file ∷ []) ≡ false → Allowed (state e) (i + 1) stmt (Msg (plain FILE_LIST))
+      refused_list holds there lacks = inl (start ∙ names_say _ ∙ (rw (holds, there, lacks) refl))
 
       pub passing : is_there from ≡ true → is_home from ≡ true → is_each_once (logical_names files) (file ∷ []) ≡ true → IsMaking (state e) (i + 1) snap files of
       passing holds there once = record { before = unmade; passes = names_say (Cuts snap) ∙ (rw (holds, there, once) refl) }

@@ -13,6 +13,7 @@ use Rattle.plain_model.specs.declared.event.Event.TheVariants.{Locked, CutAt, Re
 use Rattle.plain_model.specs.declared.reply.Message.{Message}
 use Rattle.plain_model.specs.declared.reply.Reply.{Reply}
 use Rattle.plain_model.specs.declared.reply.Reply.TheVariants.{Ok, Count, Rows, Msg}
+use Rattle.plain_model.specs.declared.reply.TheConstants.Message.{FILE_FAILED}
 use Rattle.plain_model.specs.Tables.{Change}
 use Rattle.plain_model.specs.Journal.{Opening, Committed}
 use Rattle.plain_model.specs.Next.{sparse_names}
@@ -65,7 +66,7 @@ made_known st None h = h
 made_known st (Some snap) h = h
 
 unmade_known : (st : Plain) (k : ℕ) (names : List (List ℕ)) (m : Message) → AreKnown st → AreKnown (unmade st k names m)
-unmade_known st k names m h = elim (m.number == 60021) as (λ b. AreKnown (cond b (with_doubt (without_made st (session st k).making) names) st)) [
+unmade_known st k names m h = elim (m.number == FILE_FAILED) as (λ b. AreKnown (cond b (with_doubt (without_made st (session st k).making) names) st)) [
   | true ↦ doubt_known (without_made st (session st k).making) names (made_known st (session st k).making h)
   | false ↦ h
 ]

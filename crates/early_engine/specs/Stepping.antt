@@ -10,6 +10,7 @@ use Rattle.plain_model.specs.declared.event.Event.TheVariants.{Locked, Said}
 use Rattle.plain_model.specs.declared.reply.Reply.{Reply}
 use Rattle.plain_model.specs.declared.reply.Reply.TheVariants.{Msg}
 use Rattle.plain_model.specs.declared.event.LockName.TheVariants.{All, Table}
+use Rattle.plain_model.specs.declared.reply.TheConstants.Message.{FILE_FAILED}
 use Rattle.page_base.specs.declared.numbers.Mode.TheVariants.{S}
 use Rattle.plain_model.specs.Tables.{Tables, apply}
 use Rattle.plain_model.specs.Journal.{Opening, Entry}
@@ -68,7 +69,7 @@ is_refusal reply = false
 -- the reply has no effect beside those of table statements and USE: it isn't one of CREATE DATABASE, or is a refusal of it
 -- that leaves no name in doubt
 abbrev pub IsPlain : Stmt → Reply → Type 0
-IsPlain (CreateSnap snap files of) (Msg m) = (m.number == 60021) ≡ false
+IsPlain (CreateSnap snap files of) (Msg m) = (m.number == FILE_FAILED) ≡ false
 IsPlain (CreateSnap snap files of) reply = ⊥
 IsPlain stmt reply = Unit {0}
 
