@@ -10,6 +10,7 @@ ghost use Rattle.early_pages.specs.Views.{KeepsViews, IsDue, IsPushed, NoneNewDu
 ghost use Rattle.early_pages.specs.Slots.{slots_of};
 
 use crate::{FileNames, Place, SnapPages, SnapState, SparseSet};
+use ghost_log::Tally;
 use page_base::{Failed, FileName, Image, ListOf, Name, NoMemory, PageId, SnapNo};
 use page_dev::{FileList, PageFile};
 use page_fmt::{NoRoom, slot};
@@ -23,6 +24,7 @@ struct Fake {
     last: (u32, u8),
     fails: bool,
     faults: u64,
+    calls: Tally,
 }
 
 impl PageFile for Fake {
@@ -35,6 +37,8 @@ impl PageFile for Fake {
     ghost count = { λ _. 16 };
 
     ghost failures = { λ file. file.faults };
+
+    ghost calls = { λ file. file.calls };
 
     ghost counted = { λ file t. Prim.search rules };
 
@@ -49,6 +53,7 @@ impl PageFile for Fake {
     }
 
     fn read_page(&mut self, _n: u32, into: &mut Image) -> Result<(), Failed> {
+        self.calls.count();
         if self.fails {
             self.faults = self.faults.saturating_add(1);
             return Err(Failed);
@@ -58,6 +63,7 @@ impl PageFile for Fake {
     }
 
     fn write_page(&mut self, n: u32, from: &Image) -> Result<(), Failed> {
+        self.calls.count();
         if self.fails {
             self.faults = self.faults.saturating_add(1);
             return Err(Failed);
@@ -75,6 +81,7 @@ fn sparse_files(alloc: Global, fails: bool) -> Result<FileList<Fake>, NoMemory>
         last: (0, 0),
         fails,
         faults: 0,
+        calls: Tally::zero(),
     })?;
     Ok(FileList::from(files))
 }
