@@ -5,6 +5,7 @@ ghost use Rattle.std.specs.Prelude.{◌≡◌, [], ◌∷◌, IfOk};
 ghost use Rattle.early_pages.specs.Sparse.{IsEmptyMap};
 
 use crate::SparseSet;
+use ghost_log::Tally;
 use page_base::{Failed, Image, NoMemory, PageId};
 use page_dev::{FileList, PageFile};
 use std::alloc::Global;
@@ -16,6 +17,7 @@ struct Fake {
     last: (u32, u8),
     fails: bool,
     faults: u64,
+    calls: Tally,
 }
 
 impl PageFile for Fake {
@@ -28,6 +30,8 @@ impl PageFile for Fake {
     ghost count = { λ _. 16 };
 
     ghost failures = { λ file. file.faults };
+
+    ghost calls = { λ file. file.calls };
 
     ghost counted = { λ file t. Prim.search rules };
 
@@ -42,6 +46,7 @@ impl PageFile for Fake {
     }
 
     fn read_page(&mut self, _n: u32, into: &mut Image) -> Result<(), Failed> {
+        self.calls.count();
         if self.fails {
             self.faults = self.faults.saturating_add(1);
             return Err(Failed);
@@ -51,6 +56,7 @@ impl PageFile for Fake {
     }
 
     fn write_page(&mut self, n: u32, from: &Image) -> Result<(), Failed> {
+        self.calls.count();
         if self.fails {
             self.faults = self.faults.saturating_add(1);
             return Err(Failed);
@@ -68,6 +74,7 @@ fn sparse_files(alloc: Global, fails: bool) -> Result<FileList<Fake>, NoMemory>
         last: (0, 0),
         fails,
         faults: 0,
+        calls: Tally::zero(),
     })?;
     Ok(FileList::from(files))
 }

@@ -55,9 +55,19 @@ pub record IsTable (kids : Kids) (cols : List Column) (at : SlotsAt) (owns : Pag
   pub owned : (p : PageId) → (owns p ≡ true) ↔ Reaches done p
   pub gathers : Gathers cols (cells at done) rows
 
--- the pages that are owned are a table of these rows
-abbrev pub HasRows : Kids → List Column → SlotsAt → (PageId → Bool) → Visit → Rows → Type 0
-HasRows kids cols at owns start rows = (done : List Visit) × IsTable kids cols at owns start rows done
+-- a layout: what a page names, and what else a table from a visit on keeps
+pub record Shape : Type 0 where
+  pub kids : Kids
+  pub keeps : List Column → Visit → SlotsAt → Bool
+
+-- the pages of a walk, as they stand
+abbrev pub shown : SlotsAt → List Visit → List Looked
+shown at [] = []
+shown at (v ∷ vs) = record { page = v.page; slots = at v.page } ∷ shown at vs
+
+-- the pages that are owned are a table of these rows, and keep what its layout says, of which they alone are seen
+abbrev pub HasRows : Shape → List Column → SlotsAt → (PageId → Bool) → Visit → Rows → Type 0
+HasRows shape cols at owns start rows = (done : List Visit) × IsTable shape.kids cols at owns start rows done × (shape.keeps cols start (look (shown at done)) ≡ true)
 
 -- this cell is a row
 abbrev pub IsSomeRow : List Column → List ℕ → Type 0

@@ -39,3 +39,18 @@ pub fn names_none(bytes: &[u8]) -> bool
 {
     bytes.len() == 5 && bytes[0] == 0 && page_number(bytes) == 0
 }
+
+/// The address of a page, which is read as that page where it may be named. Takes no memory.
+#[tactic(auto, unfolding(crate::specs::Addresses::address))]
+pub fn address(page: PageId) -> [u8; 5]
+    ensures { result ≡ spec.address page }
+{
+    let number = page.page;
+    [
+        page.file,
+        (number % 256) as u8,
+        (number / 256 % 256) as u8,
+        (number / 65536 % 256) as u8,
+        (number / 16777216) as u8,
+    ]
+}
