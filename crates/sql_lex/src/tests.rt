@@ -383,11 +383,16 @@ fn texts_are_read_as_names(rt: HostRuntime) {
 fn words_have_their_letters(rt: HostRuntime) {
     assert_eq!(rt; Keyword::Transaction.text(), "transaction");
     for (word, want) in [
+        (ContextWord::Committed, "committed"),
         (ContextWord::DatabaseSnapshot, "database_snapshot"),
         (ContextWord::Dbo, "dbo"),
         (ContextWord::Filename, "filename"),
+        (ContextWord::Isolation, "isolation"),
+        (ContextWord::Level, "level"),
         (ContextWord::LockTimeout, "lock_timeout"),
         (ContextWord::Name, "name"),
+        (ContextWord::Read, "read"),
+        (ContextWord::Serializable, "serializable"),
         (ContextWord::Snapshot, "snapshot"),
         (ContextWord::Work, "work"),
     ] {
