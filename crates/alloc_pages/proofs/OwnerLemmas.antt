@@ -1,5 +1,5 @@
 -- Where the owners stand, and whose a page is after one slot was set.
-use Rattle.std.proofs.Common.{inl, inr, ◌≡◌, ◌≢◌, ℕ, ◌*◌, ◌/◌, ◌%◌, ◌^◌, ◌<◌, ◌≤◌, List, [], length, refl, ap, sym, ◌∙◌, arith}
+use Rattle.std.proofs.Common.{inl, inr, ◌≡◌, ◌≢◌, ℕ, ◌+◌, ◌*◌, ◌/◌, ◌%◌, ◌^◌, ◌<◌, ◌≤◌, List, [], length, refl, ap, sym, ◌∙◌, arith}
 use Rattle.std.proofs.lemmas.Bool.{cases_lt}
 use Rattle.std.proofs.lemmas.List.{append-nil, get_or_past}
 use Rattle.byteorder.specs.Endian.{little_bytes, little_number}
@@ -21,6 +21,10 @@ spot_of-only p spot h =
     let page : spot.page.page ≡ p.page / 1280 * 1280 = omega (arith, h.every, h.within, h.sum) in
     let slot : spot.slot ≡ p.page % 1280 = omega (arith, h.every, h.within, h.sum) in
     λ i. record { page = record { file = h.file i; page = page i }; slot = slot i }
+
+-- the page of a slot of an allocation page
+pub page_at_spot : (page : PageId) (slot : ℕ) → page.page % 1280 ≡ 0 → slot < 1280 → spot_of (record { file = page.file; page = page.page + slot }) ≡ record { page = page; slot = slot }
+page_at_spot page slot every within = sym (spot_of-only (record { file = page.file; page = page.page + slot }) (record { page = page; slot = slot }) (record { file = refl; every = every; within = within; sum = refl }))
 
 -- two pages have two slots
 pub spots_apart : (p q : PageId) → p ≢ q → (spot_of p).page ≡ (spot_of q).page → (spot_of p).slot ≡ (spot_of q).slot → ⊥

@@ -1,6 +1,6 @@
 //! Where the owner of a page stands.
 
-ghost use Rattle.std.specs.Prelude.{◌≡◌};
+ghost use Rattle.std.specs.Prelude.{◌≡◌, ◌+◌, ◌%◌, ◌^◌, ◌<◌};
 ghost use Rattle.alloc_pages.specs.Spots.{IsSpotOf, spot_of};
 
 use page_base::PageId;
@@ -27,5 +27,19 @@ pub fn alloc_of(p: PageId) -> AllocSpot
             page: p.page - slot,
         },
         slot: slot as u16,
+    }
+}
+
+/// The page whose owner a slot holds, on one of the pages 0, 1280, 2560 and so on of its file.
+#[tactic(auto, using(crate::proofs::OwnerLemmas::page_at_spot))]
+pub fn page_of(page: PageId, slot: u16) -> PageId
+    requires every { page.page % 1280 ≡ 0 }
+    requires within { slot < 1280 }
+    requires small { page.page + slot < 2 ^ 32 }
+    ensures { spot_of result ≡ record { page = page; slot = slot } }
+{
+    PageId {
+        file: page.file,
+        page: page.page + u32::from(slot),
     }
 }

@@ -2,7 +2,7 @@
 
 ghost use Rattle.page_fmt.specs.Content.{IsPage};
 
-use crate::{alloc_of, first_free, owner, owner_bytes};
+use crate::{alloc_of, first_free, owner, owner_bytes, page_of};
 use page_base::{Image, PageId};
 use page_fmt::put_slot;
 use std::test::Fail;
@@ -25,6 +25,7 @@ fn pages_have_their_slots(rt: HostRuntime) {
         });
         assert_eq!(rt; spot.page, PageId { file: 3, page }, "{number}");
         assert_eq!(rt; spot.slot, slot, "{number}");
+        assert_eq!(rt; page_of(spot.page, spot.slot).page, number);
     }
 }
 

@@ -9,6 +9,7 @@ use Rattle.plain_model.specs.declared.stmt.Stmt.TheVariants.{UseDb, CreateTable,
 use Rattle.plain_model.specs.declared.stmt.SelectStmt.{SelectStmt}
 use Rattle.plain_model.specs.declared.reply.Reply.{Reply}
 use Rattle.plain_model.specs.declared.reply.Reply.TheVariants.{Ok, Msg}
+use Rattle.plain_model.specs.declared.reply.TheConstants.Message.{NOT_BUILT, NO_DATABASE, NO_MEMORY, NO_TABLE, READ_ONLY, SUSPECT, SYNTAX}
 use Rattle.plain_model.specs.Journal.{Opening}
 use Rattle.plain_model.specs.State.{Plain, session, is_suspect, is_source, is_snap, copy, master}
 use Rattle.plain_model.specs.Messages.{plain, at_place}
@@ -67,14 +68,14 @@ module _ (opening : Opening) (cat : Catalog) (wf : IsCatalog cat) (apart : AreAp
 
 module _ (opening : Opening) (current : List ℕ) (seen : Seen) (cat : Catalog) (wf : IsCatalog cat) (apart : AreApart opening.source cat) (db : Database) (means : Means opening.source cat current db) where
   -- a statement that isn't built
-  pub unbuilt_comes : (stmt : Stmt) → is_built stmt ≡ false → Comes opening current seen (snaps cat master) stmt (AtOnce (Msg (plain 60098)))
+  pub unbuilt_comes : (stmt : Stmt) → is_built stmt ≡ false → Comes opening current seen (snaps cat master) stmt (AtOnce (Msg (plain NOT_BUILT)))
   unbuilt_comes stmt b st k ready is = inl (not_built st k stmt b)
 
-  pub broken_comes : (at : ℕ) → Comes opening current seen (snaps cat master) (Broken at) (AtOnce (Msg (at_place 102 at)))
+  pub broken_comes : (at : ℕ) → Comes opening current seen (snaps cat master) (Broken at) (AtOnce (Msg (at_place SYNTAX at)))
   broken_comes at st k ready is = inl refl
 
   -- no memory was found for a statement about tables
-  pub memory_comes : (stmt : Stmt) → is_of_tables stmt ≡ true → is_lost cat db ≡ false → Comes opening current seen (snaps cat master) stmt (AtOnce (Msg (plain 701)))
+  pub memory_comes : (stmt : Stmt) → is_of_tables stmt ≡ true → is_lost cat db ≡ false → Comes opening current seen (snaps cat master) stmt (AtOnce (Msg (plain NO_MEMORY)))
   memory_comes stmt of sound st k ready is = inr (NoMemory stmt of (unread stmt (ap (is_suspect st) ready.current_is ∙ lost_is opening cat wf apart st ready.opened is current db means ∙ sound)))
     where
       unread : (stmt : Stmt) → is_suspect st (session st k).current ≡ false → reads_suspect st k stmt ≡ false
@@ -91,27 +92,27 @@ module _ (opening : Opening) (current : List ℕ) (seen : Seen) (cat : Catalog) 
   current_shot st k ready is = ap (is_snap st) ready.current_is ∙ shot_is opening cat wf apart st ready.opened is current db means
 
   -- a write outside the source
-  write_refused : (st : Plain) (k : ℕ) (next : Next) → Ready opening current seen st k [] → st.snaps ≡ snaps cat master → is_home db ≡ false → unless (no_write st k) next ≡ Replies (Msg (cond (is_lost cat db) (plain 926) (plain 3906)))
+  write_refused : (st : Plain) (k : ℕ) (next : Next) → Ready opening current seen st k [] → st.snaps ≡ snaps cat master → is_home db ≡ false → unless (no_write st k) next ≡ Replies (Msg (cond (is_lost cat db) (plain SUSPECT) (plain READ_ONLY)))
   write_refused st k next ready is out =
       let l = current_lost st k ready is in
       let h = current_home st k ready is ∙ out in
-      rw (l, h) (elim (is_lost cat db) as (λ b. cond b (Replies (Msg (plain 926))) (Replies (Msg (plain 3906))) ≡ Replies (Msg (cond b (plain 926) (plain 3906)))) [ true ↦ refl | false ↦ refl ])
+      rw (l, h) (elim (is_lost cat db) as (λ b. cond b (Replies (Msg (plain SUSPECT))) (Replies (Msg (plain READ_ONLY))) ≡ Replies (Msg (cond b (plain SUSPECT) (plain READ_ONLY)))) [ true ↦ refl | false ↦ refl ])
 
-  pub create_refused : (name : List ℕ) (cols : List Column) → is_home db ≡ false → Comes opening current seen (snaps cat master) (CreateTable name cols) (AtOnce (Msg (cond (is_lost cat db) (plain 926) (plain 3906))))
+  pub create_refused : (name : List ℕ) (cols : List Column) → is_home db ≡ false → Comes opening current seen (snaps cat master) (CreateTable name cols) (AtOnce (Msg (cond (is_lost cat db) (plain SUSPECT) (plain READ_ONLY))))
   create_refused name cols out st k ready is = inl (built st k (CreateTable name cols) refl ∙ write_refused st k _ ready is out)
 
-  pub change_refused : (stmt : Stmt) → is_change stmt ≡ true → is_home db ≡ false → Comes opening current seen (snaps cat master) stmt (AtOnce (Msg (cond (is_lost cat db) (plain 926) (plain 3906))))
+  pub change_refused : (stmt : Stmt) → is_change stmt ≡ true → is_home db ≡ false → Comes opening current seen (snaps cat master) stmt (AtOnce (Msg (cond (is_lost cat db) (plain SUSPECT) (plain READ_ONLY))))
   change_refused stmt h out st k ready is = inl (change_next st k stmt h ∙ write_refused st k _ ready is out)
 
   -- SELECT outside the source and all snapshots
-  pub select_refused : (s : SelectStmt) → is_built (Select s) ≡ true → is_home db ≡ false → is_shot db ≡ false → Comes opening current seen (snaps cat master) (Select s) (AtOnce (Msg (plain 208)))
+  pub select_refused : (s : SelectStmt) → is_built (Select s) ≡ true → is_home db ≡ false → is_shot db ≡ false → Comes opening current seen (snaps cat master) (Select s) (AtOnce (Msg (plain NO_TABLE)))
   select_refused s b out none st k ready is =
       let h = current_home st k ready is ∙ out in
       let n = current_shot st k ready is ∙ none in
       inl (built st k (Select s) b ∙ (rw (h, n) refl))
 
   -- SELECT in a snapshot
-  pub select_lost : (s : SelectStmt) → is_built (Select s) ≡ true → is_home db ≡ false → is_shot db ≡ true → is_lost cat db ≡ true → Comes opening current seen (snaps cat master) (Select s) (AtOnce (Msg (plain 926)))
+  pub select_lost : (s : SelectStmt) → is_built (Select s) ≡ true → is_home db ≡ false → is_shot db ≡ true → is_lost cat db ≡ true → Comes opening current seen (snaps cat master) (Select s) (AtOnce (Msg (plain SUSPECT)))
   select_lost s b out shot lost st k ready is =
       let h = current_home st k ready is ∙ out in
       let n = current_shot st k ready is ∙ shot in
@@ -129,18 +130,18 @@ module _ (opening : Opening) (current : List ℕ) (seen : Seen) (cat : Catalog) 
 
 -- USE
 module _ (opening : Opening) (current : List ℕ) (seen : Seen) (cat : Catalog) (wf : IsCatalog cat) (apart : AreApart opening.source cat) (name : List ℕ) (db : Database) (means : Means opening.source cat name db) where
-  use_next : (st : Plain) (k : ℕ) → Ready opening current seen st k [] → st.snaps ≡ snaps cat master → next_of st k (Some (UseDb name)) ≡ cond (is_there db) (cond (is_lost cat db) (Replies (Msg (plain 926))) (Replies Ok)) (Replies (Msg (plain 911)))
+  use_next : (st : Plain) (k : ℕ) → Ready opening current seen st k [] → st.snaps ≡ snaps cat master → next_of st k (Some (UseDb name)) ≡ cond (is_there db) (cond (is_lost cat db) (Replies (Msg (plain SUSPECT))) (Replies Ok)) (Replies (Msg (plain NO_DATABASE)))
   use_next st k ready is =
       let t = there_is opening cat wf apart st ready.opened is name db means in
       let l = lost_is opening cat wf apart st ready.opened is name db means in
       let r = ready.settled in
       let u = ready.unmade name in
-      rw (t, r, u, l) (elim (is_there db) as (λ b. cond (not b) (Replies (Msg (plain 911))) (cond (is_lost cat db) (Replies (Msg (plain 926))) (Replies Ok)) ≡ cond b (cond (is_lost cat db) (Replies (Msg (plain 926))) (Replies Ok)) (Replies (Msg (plain 911)))) [ true ↦ refl | false ↦ refl ])
+      rw (t, r, u, l) (elim (is_there db) as (λ b. cond (not b) (Replies (Msg (plain NO_DATABASE))) (cond (is_lost cat db) (Replies (Msg (plain SUSPECT))) (Replies Ok)) ≡ cond b (cond (is_lost cat db) (Replies (Msg (plain SUSPECT))) (Replies Ok)) (Replies (Msg (plain NO_DATABASE)))) [ true ↦ refl | false ↦ refl ])
 
-  pub use_absent : is_there db ≡ false → Comes opening current seen (snaps cat master) (UseDb name) (AtOnce (Msg (plain 911)))
+  pub use_absent : is_there db ≡ false → Comes opening current seen (snaps cat master) (UseDb name) (AtOnce (Msg (plain NO_DATABASE)))
   use_absent e st k ready is = inl (use_next st k ready is ∙ (rw e refl))
 
-  pub use_lost : is_there db ≡ true → is_lost cat db ≡ true → Comes opening current seen (snaps cat master) (UseDb name) (AtOnce (Msg (plain 926)))
+  pub use_lost : is_there db ≡ true → is_lost cat db ≡ true → Comes opening current seen (snaps cat master) (UseDb name) (AtOnce (Msg (plain SUSPECT)))
   use_lost e l st k ready is = inl (use_next st k ready is ∙ (rw (e, l) refl))
 
   pub use_comes : is_there db ≡ true → is_lost cat db ≡ false → Comes opening current seen (snaps cat master) (UseDb name) (AtOnce Ok)

@@ -35,31 +35,32 @@ use Rattle.early_engine.proofs.SelectLemmas.{as_select}
 use Rattle.early_engine.specs.Changing.{is_change}
 use Rattle.early_engine.proofs.ChangeLemmas.{change_plain}
 use Rattle.plain_model.specs.declared.reply.Carried.TheVariants.{Nothing, Number}
+use Rattle.plain_model.specs.declared.reply.TheConstants.Message.{BAD_DEFINITION, NOT_BUILT, NO_DATABASE, NO_MEMORY, NO_TABLE, READ_ONLY, SUSPECT, SYNTAX}
 
 abbrev pub now : Message → Decision
 now m = record { answer = AtOnce (Msg m); edits = [] }
 
 -- what is refused outside the source says nothing of room or of the volume
-outside_room : (v : Shown) (stmt : Stmt) (lost : Bool) → IsRoomReply v stmt (Msg (cond lost (plain 926) (plain 3906)))
-outside_room v stmt true = other_number v stmt 926 Nothing refl
-outside_room v stmt false = other_number v stmt 3906 Nothing refl
+outside_room : (v : Shown) (stmt : Stmt) (lost : Bool) → IsRoomReply v stmt (Msg (cond lost (plain SUSPECT) (plain READ_ONLY)))
+outside_room v stmt true = other_number v stmt SUSPECT Nothing refl
+outside_room v stmt false = other_number v stmt READ_ONLY Nothing refl
 
-outside_fine : (lost : Bool) → IsNoFailure (Msg (cond lost (plain 926) (plain 3906)))
-outside_fine true = no_failure 926 Nothing refl
-outside_fine false = no_failure 3906 Nothing refl
+outside_fine : (lost : Bool) → IsNoFailure (Msg (cond lost (plain SUSPECT) (plain READ_ONLY)))
+outside_fine true = no_failure SUSPECT Nothing refl refl
+outside_fine false = no_failure READ_ONLY Nothing refl refl
 
 module _ (v : Shown) (db : Database) where
-  pub unbuilt : (stmt : Stmt) → is_built stmt ≡ false → IsPlain stmt (Msg (plain 60098)) → Decides v db stmt (now (plain 60098))
+  pub unbuilt : (stmt : Stmt) → is_built stmt ≡ false → IsPlain stmt (Msg (plain NOT_BUILT)) → Decides v db stmt (now (plain NOT_BUILT))
   unbuilt stmt b simple opening current seen setting means =
-      refuses_only opening opening.source current v seen stmt (AtOnce (Msg (plain 60098))) 60098 Nothing refl refl refl setting simple (unbuilt_comes opening current seen (catalog v) setting.ordered setting.apart db means stmt b)
+      refuses_only opening opening.source current v seen stmt (AtOnce (Msg (plain NOT_BUILT))) NOT_BUILT Nothing refl refl refl refl setting simple (unbuilt_comes opening current seen (catalog v) setting.ordered setting.apart db means stmt b)
 
-  pub create_outside : (name : List ℕ) (cols : List Column) → is_home db ≡ false → Decides v db (CreateTable name cols) (now (cond (is_lost (catalog v) db) (plain 926) (plain 3906)))
+  pub create_outside : (name : List ℕ) (cols : List Column) → is_home db ≡ false → Decides v db (CreateTable name cols) (now (cond (is_lost (catalog v) db) (plain SUSPECT) (plain READ_ONLY)))
   create_outside name cols out opening current seen setting means =
-      decides_only opening opening.source current v seen (CreateTable name cols) (AtOnce (Msg (cond (is_lost (catalog v) db) (plain 926) (plain 3906)))) setting refl tt (outside_room v (CreateTable name cols) (is_lost (catalog v) db)) (outside_fine (is_lost (catalog v) db)) (create_refused opening current seen (catalog v) setting.ordered setting.apart db means name cols out)
+      decides_only opening opening.source current v seen (CreateTable name cols) (AtOnce (Msg (cond (is_lost (catalog v) db) (plain SUSPECT) (plain READ_ONLY)))) setting refl tt (outside_room v (CreateTable name cols) (is_lost (catalog v) db)) (outside_fine (is_lost (catalog v) db)) (create_refused opening current seen (catalog v) setting.ordered setting.apart db means name cols out)
 
-  pub change_outside : (stmt : Stmt) → is_change stmt ≡ true → is_home db ≡ false → Decides v db stmt (now (cond (is_lost (catalog v) db) (plain 926) (plain 3906)))
+  pub change_outside : (stmt : Stmt) → is_change stmt ≡ true → is_home db ≡ false → Decides v db stmt (now (cond (is_lost (catalog v) db) (plain SUSPECT) (plain READ_ONLY)))
   change_outside stmt h out opening current seen setting means =
-      decides_only opening opening.source current v seen stmt (AtOnce (Msg (cond (is_lost (catalog v) db) (plain 926) (plain 3906)))) setting refl (change_plain stmt (Msg (cond (is_lost (catalog v) db) (plain 926) (plain 3906))) h) (outside_room v stmt (is_lost (catalog v) db)) (outside_fine (is_lost (catalog v) db)) (change_refused opening current seen (catalog v) setting.ordered setting.apart db means stmt h out)
+      decides_only opening opening.source current v seen stmt (AtOnce (Msg (cond (is_lost (catalog v) db) (plain SUSPECT) (plain READ_ONLY)))) setting refl (change_plain stmt (Msg (cond (is_lost (catalog v) db) (plain SUSPECT) (plain READ_ONLY))) h) (outside_room v stmt (is_lost (catalog v) db)) (outside_fine (is_lost (catalog v) db)) (change_refused opening current seen (catalog v) setting.ordered setting.apart db means stmt h out)
 
   -- in the source
   module _ (home : is_home db ≡ true) where
@@ -75,18 +76,18 @@ module _ (v : Shown) (db : Database) where
     pub at_home : (stmt : Stmt) (d : Decision) → ((opening : Opening) (seen : Seen) → Setting opening opening.source v seen → IsDecision opening opening.source v seen stmt d) → Decides v db stmt d
     at_home stmt d h opening current seen setting means = subst (λ (c : List ℕ). IsDecision opening c v seen stmt d) (sym (home_means opening.source current means)) (h opening seen setting)
 
-    pub bad_definition : (name : List ℕ) (cols : List Column) → (length cols == 0) ≡ true → Decides v db (CreateTable name cols) (now (plain 60016))
-    bad_definition name cols e = at_home (CreateTable name cols) (now (plain 60016)) (λ opening seen setting.
-        refuses_only opening opening.source opening.source v seen (CreateTable name cols) (AtOnce (Msg (plain 60016))) 60016 Nothing refl refl refl setting tt (bad_comes opening opening.source seen _ refl name cols e))
+    pub bad_definition : (name : List ℕ) (cols : List Column) → (length cols == 0) ≡ true → Decides v db (CreateTable name cols) (now (plain BAD_DEFINITION))
+    bad_definition name cols e = at_home (CreateTable name cols) (now (plain BAD_DEFINITION)) (λ opening seen setting.
+        refuses_only opening opening.source opening.source v seen (CreateTable name cols) (AtOnce (Msg (plain BAD_DEFINITION))) BAD_DEFINITION Nothing refl refl refl refl setting tt (bad_comes opening opening.source seen _ refl name cols e))
 
-  no_memory : (stmt : Stmt) → is_of_tables stmt ≡ true → IsPlain stmt (Msg (plain 701)) → (opening : Opening) (seen : Seen) → Setting opening opening.source v seen → IsDecision opening opening.source v seen stmt (now (plain 701))
+  no_memory : (stmt : Stmt) → is_of_tables stmt ≡ true → IsPlain stmt (Msg (plain NO_MEMORY)) → (opening : Opening) (seen : Seen) → Setting opening opening.source v seen → IsDecision opening opening.source v seen stmt (now (plain NO_MEMORY))
   no_memory stmt of simple opening seen setting =
-      refuses_only opening opening.source opening.source v seen stmt (AtOnce (Msg (plain 701))) 701 Nothing refl refl refl setting simple (memory_comes opening opening.source seen (catalog v) setting.ordered setting.apart Source (bytes_same opening.source) stmt of refl)
+      refuses_only opening opening.source opening.source v seen stmt (AtOnce (Msg (plain NO_MEMORY))) NO_MEMORY Nothing refl refl refl refl setting simple (memory_comes opening opening.source seen (catalog v) setting.ordered setting.apart Source (bytes_same opening.source) stmt of refl)
 
-  -- a decision in the source, or 701
-  pub or_memory : (stmt : Stmt) → is_of_tables stmt ≡ true → IsPlain stmt (Msg (plain 701)) → is_home db ≡ true → (r : Result Decision NoMemory) (x : Decision) →
+  -- a decision in the source, or NO_MEMORY
+  pub or_memory : (stmt : Stmt) → is_of_tables stmt ≡ true → IsPlain stmt (Msg (plain NO_MEMORY)) → is_home db ≡ true → (r : Result Decision NoMemory) (x : Decision) →
       IfOk r (λ d. (opening : Opening) (seen : Seen) → Setting opening opening.source v seen → IsDecision opening opening.source v seen stmt d) →
-      MatchResult r (λ d. x ≡ d) (λ _. x ≡ now (plain 701)) → Decides v db stmt x
+      MatchResult r (λ d. x ≡ d) (λ _. x ≡ now (plain NO_MEMORY)) → Decides v db stmt x
   or_memory stmt of simple home (Ok d) x h is = at_home home stmt x (λ opening seen setting. subst (λ (y : Decision). IsDecision opening opening.source v seen stmt y) (sym is) (h opening seen setting))
   or_memory stmt of simple home (Err e) x h is = at_home home stmt x (λ opening seen setting. subst (λ (y : Decision). IsDecision opening opening.source v seen stmt y) (sym is) (no_memory stmt of simple opening seen setting))
 
@@ -98,23 +99,23 @@ same_decision opening current v seen stmt d e is h = subst (λ (x : Decision). I
 
 -- USE
 module _ (v : Shown) (opening : Opening) (current : List ℕ) (seen : Seen) (setting : Setting opening opening.source v seen) (name : List ℕ) (db : Database) (means : Means opening.source (catalog v) name db) where
-  pub enter_absent : is_there db ≡ false → IsDecision opening current v seen (UseDb name) (now (plain 911))
-  enter_absent e = refuses_only opening opening.source current v seen (UseDb name) (AtOnce (Msg (plain 911))) 911 Nothing refl refl refl setting tt (use_absent opening current seen (catalog v) setting.ordered setting.apart name db means e)
+  pub enter_absent : is_there db ≡ false → IsDecision opening current v seen (UseDb name) (now (plain NO_DATABASE))
+  enter_absent e = refuses_only opening opening.source current v seen (UseDb name) (AtOnce (Msg (plain NO_DATABASE))) NO_DATABASE Nothing refl refl refl refl setting tt (use_absent opening current seen (catalog v) setting.ordered setting.apart name db means e)
 
-  pub enter_lost : is_there db ≡ true → is_lost (catalog v) db ≡ true → IsDecision opening current v seen (UseDb name) (now (plain 926))
-  enter_lost e l = refuses_only opening opening.source current v seen (UseDb name) (AtOnce (Msg (plain 926))) 926 Nothing refl refl refl setting tt (use_lost opening current seen (catalog v) setting.ordered setting.apart name db means e l)
+  pub enter_lost : is_there db ≡ true → is_lost (catalog v) db ≡ true → IsDecision opening current v seen (UseDb name) (now (plain SUSPECT))
+  enter_lost e l = refuses_only opening opening.source current v seen (UseDb name) (AtOnce (Msg (plain SUSPECT))) SUSPECT Nothing refl refl refl refl setting tt (use_lost opening current seen (catalog v) setting.ordered setting.apart name db means e l)
 
   pub enters : is_there db ≡ true → is_lost (catalog v) db ≡ false → IsDecision opening current v seen (UseDb name) (record { answer = AtOnce Fine; edits = [] })
   enters e l = decides_only opening opening.source current v seen (UseDb name) (AtOnce Fine) setting refl tt tt tt (use_comes opening current seen (catalog v) setting.ordered setting.apart name db means e l)
 
 -- SELECT
-pub simple_select : (stmt : Stmt) (name : List ℕ) → IsSelect stmt name → IsPlain stmt (Msg (plain 701))
-simple_select stmt name h = as_select (λ stmt name. IsPlain stmt (Msg (plain 701))) stmt name h tt
+pub simple_select : (stmt : Stmt) (name : List ℕ) → IsSelect stmt name → IsPlain stmt (Msg (plain NO_MEMORY))
+simple_select stmt name h = as_select (λ stmt name. IsPlain stmt (Msg (plain NO_MEMORY))) stmt name h tt
 
 module _ (v : Shown) (db : Database) (s : SelectStmt) where
-  pub see_lost : is_lost (catalog v) db ≡ true → Decides v db (Select s) (now (plain 926))
+  pub see_lost : is_lost (catalog v) db ≡ true → Decides v db (Select s) (now (plain SUSPECT))
   see_lost l opening current seen setting means =
-      refuses_only opening opening.source current v seen (Select s) (AtOnce (Msg (plain 926))) 926 Nothing refl refl refl setting tt
+      refuses_only opening opening.source current v seen (Select s) (AtOnce (Msg (plain SUSPECT))) SUSPECT Nothing refl refl refl refl setting tt
       (select_lost opening current seen (catalog v) setting.ordered setting.apart db means s refl (out db l) (shot db l) l)
     where
       out : (d : Database) → is_lost (catalog v) d ≡ true → is_home d ≡ false
@@ -129,18 +130,18 @@ module _ (v : Shown) (db : Database) (s : SelectStmt) where
       shot (Snap s) e = refl
       shot Absent e = absurd (let x : false ≡ true = e in cc)
 
-  pub see_nowhere : is_home db ≡ false → is_shot db ≡ false → Decides v db (Select s) (now (plain 208))
+  pub see_nowhere : is_home db ≡ false → is_shot db ≡ false → Decides v db (Select s) (now (plain NO_TABLE))
   see_nowhere h n opening current seen setting means =
-      refuses_only opening opening.source current v seen (Select s) (AtOnce (Msg (plain 208))) 208 Nothing refl refl refl setting tt
+      refuses_only opening opening.source current v seen (Select s) (AtOnce (Msg (plain NO_TABLE))) NO_TABLE Nothing refl refl refl refl setting tt
       (select_refused opening current seen (catalog v) setting.ordered setting.apart db means s refl h n)
 
-pub broken : (v : Shown) (db : Database) (at : ℕ) → Decides v db (Broken at) (record { answer = AtOnce (Msg (at_place 102 at)); edits = [] })
+pub broken : (v : Shown) (db : Database) (at : ℕ) → Decides v db (Broken at) (record { answer = AtOnce (Msg (at_place SYNTAX at)); edits = [] })
 broken v db at opening current seen setting means =
-    refuses_only opening opening.source current v seen (Broken at) (AtOnce (Msg (at_place 102 at))) 102 (Number at) refl refl refl setting tt (broken_comes opening current seen (catalog v) setting.ordered setting.apart db means at)
+    refuses_only opening opening.source current v seen (Broken at) (AtOnce (Msg (at_place SYNTAX at))) SYNTAX (Number at) refl refl refl refl setting tt (broken_comes opening current seen (catalog v) setting.ordered setting.apart db means at)
 
 -- a statement of no kind that is built
 pub other : (stmt : Stmt) → ((d : List ℕ) → stmt ≡ UseDb d → ⊥) → ((n : List ℕ) (cols : List Column) → stmt ≡ CreateTable n cols → ⊥) → ((i : InsertStmt) → stmt ≡ Insert i → ⊥) → ((s : SelectStmt) → stmt ≡ Select s → ⊥) → ((u : UpdateStmt) → stmt ≡ Update u → ⊥) → ((d : DeleteStmt) → stmt ≡ Delete d → ⊥)
-    → ((snap : List ℕ) (files : List SnapFile) (of : List ℕ) → stmt ≡ CreateSnap snap files of → ⊥) → ((at : ℕ) → stmt ≡ Broken at → ⊥) → (is_built stmt ≡ false) × IsPlain stmt (Msg (plain 60098))
+    → ((snap : List ℕ) (files : List SnapFile) (of : List ℕ) → stmt ≡ CreateSnap snap files of → ⊥) → ((at : ℕ) → stmt ≡ Broken at → ⊥) → (is_built stmt ≡ false) × IsPlain stmt (Msg (plain NOT_BUILT))
 other (UseDb d) a b c e f x g h = absurd (a d refl)
 other (CreateTable n cols) a b c e f x g h = absurd (b n cols refl)
 other (Insert i) a b c e f x g h = absurd (c i refl)
@@ -149,4 +150,4 @@ other (Update u) a b c e f x g h = absurd (f u refl)
 other (Delete d) a b c e f x g h = absurd (x d refl)
 other (CreateSnap snap files of) a b c e f x g h = absurd (g snap files of refl)
 other (Broken at) a b c e f x g h = absurd (h at refl)
-other stmt a b c e f x g h = (refl, tt)
+other stmt a b c e f x g h = (refl, refl)

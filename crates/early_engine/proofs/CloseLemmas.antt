@@ -32,7 +32,7 @@ and_true true h = refl
 and_true false h = h
 
 -- the one file of a set
-module _ {F : Type 0} (tells : F → Bool) (content : F → FilePages) (size failures : F → ℕ) (files : List F) (set : Files) (shown : files_of tells content size failures files ≡ set) (n : ℕ) (one : set.counts ≡ n ∷ []) where
+module _ {F : Type 0} (tells : F → Bool) (content : F → FilePages) (size failures calls : F → ℕ) (files : List F) (set : Files) (shown : files_of tells content size failures calls files ≡ set) (n : ℕ) (one : set.counts ≡ n ∷ []) where
   pub one_long : length files ≡ 1
   one_long = sym (length-map files size) ∙ ap (λ (fs : Files). length fs.counts) shown ∙ ap length one
 
@@ -42,8 +42,8 @@ module _ {F : Type 0} (tells : F → Bool) (content : F → FilePages) (size fai
     alone (f ∷ []) long is = ap (λ (x : F). x ∷ []) (sym is)
     alone (f ∷ g ∷ fs) long is = absurd (omega (arith, long))
 
-    shows : files_of tells content size failures (file ∷ []) ≡ set
-    shows = ap (files_of tells content size failures) (sym (alone files one_long at)) ∙ shown
+    shows : files_of tells content size failures calls (file ∷ []) ≡ set
+    shows = ap (files_of tells content size failures calls) (sym (alone files one_long at)) ∙ shown
 
     pub puts_set : (name given : List ℕ) → given ≡ name → (old new : Disk) (end : CloseEnd) → PutsBack given (tells file) (concat (content file)) (failures file) old new end → PutsBack name set.tells (concat (get_or set.content 0 [])) (total set.failures) old new end
     puts_set name given is old new end puts' = let puts = subst (λ (n : List ℕ). PutsBack n (tells file) (concat (content file)) (failures file) old new end) is puts' in subst (λ (fs : Files). PutsBack name fs.tells (concat (get_or fs.content 0 [])) (total fs.failures) old new end) shows (record {

@@ -13,13 +13,14 @@ use Rattle.plain_model.specs.declared.event.LockName.TheVariants.{All, Table}
 use Rattle.plain_model.specs.declared.reply.Message.{Message}
 use Rattle.plain_model.specs.declared.reply.Reply.{Reply}
 use Rattle.plain_model.specs.declared.reply.Reply.TheVariants.{Ok, Msg}
+use Rattle.plain_model.specs.declared.reply.TheConstants.Message.{BAD_DEFINITION, NOT_BUILT, NO_ROOM}
 use Rattle.plain_model.specs.Tables.{apply}
 use Rattle.plain_model.specs.Journal.{Opening}
 use Rattle.plain_model.specs.State.{Plain, Snap, session, is_suspect, is_source, see, committed}
 use Rattle.plain_model.specs.Holding.{holds}
 use Rattle.plain_model.specs.Messages.{plain}
 use Rattle.plain_model.specs.Meaning.{shape, change_and_reply}
-use Rattle.plain_model.specs.Next.{Next, Replies, Wants, unless, unless_shape, under, answers, no_write, next_built, next_change, next_of, is_built}
+use Rattle.plain_model.specs.Next.{Next, Replies, Wants, unless, unless_shape, under, answers, no_write, next_stmt, next_change, next_of, is_built}
 use Rattle.plain_model.specs.Statements.{table_named}
 use Rattle.early_engine.specs.Changing.{is_change}
 use Rattle.plain_model.specs.Free.{NoRoom, may_grow, is_success}
@@ -29,10 +30,10 @@ use Rattle.early_engine.proofs.PushLemmas.{bytes_same}
 
 -- UNDER LOCKS
 
-pub not_built : (st : Plain) (k : ℕ) (stmt : Stmt) → is_built stmt ≡ false → next_of st k (Some stmt) ≡ Replies (Msg (plain 60098))
+pub not_built : (st : Plain) (k : ℕ) (stmt : Stmt) → is_built stmt ≡ false → next_of st k (Some stmt) ≡ Replies (Msg (plain NOT_BUILT))
 not_built st k stmt b = rw b refl
 
-pub built : (st : Plain) (k : ℕ) (stmt : Stmt) → is_built stmt ≡ true → next_of st k (Some stmt) ≡ next_built st k stmt
+pub built : (st : Plain) (k : ℕ) (stmt : Stmt) → is_built stmt ≡ true → next_of st k (Some stmt) ≡ next_stmt st k stmt
 built st k stmt b = rw b refl
 
 module _ (opening : Opening) (current : List ℕ) (seen : Seen) (st : Plain) (k : ℕ) (locks : Locks) (ready : Ready opening current seen st k locks) where
@@ -74,10 +75,10 @@ shared name mode = refl
 pub record IsOfTable (stmt : Stmt) (table : List ℕ) (mode : Mode) : Type 0 where
   pub built : is_built stmt ≡ true
   pub next : (opening : Opening) (current : List ℕ) (seen : Seen) (st : Plain) (k : ℕ) (locks : Locks) → Ready opening current seen st k locks → current ≡ opening.source →
-      next_built st k stmt ≡ under st k All S (unless_shape (shape stmt seen.source) (under st k (Table table) mode (answers stmt seen.source)))
+      next_stmt st k stmt ≡ under st k All S (unless_shape (shape stmt seen.source) (under st k (Table table) mode (answers stmt seen.source)))
 
 -- a change of rows is a write of its table
-next_change_is : (st : Plain) (k : ℕ) (stmt : Stmt) → is_change stmt ≡ true → next_built st k stmt ≡ next_change st k stmt (table_named stmt)
+next_change_is : (st : Plain) (k : ℕ) (stmt : Stmt) → is_change stmt ≡ true → next_stmt st k stmt ≡ next_change st k stmt (table_named stmt)
 next_change_is st k (Insert i) h = refl
 next_change_is st k (Update u) h = refl
 next_change_is st k (Delete d) h = refl
@@ -146,7 +147,7 @@ module _ (opening : Opening) (current : List ℕ) (seen : Seen) (snaps : List Sn
   reply_comes reply e r = subst (λ x. Comes opening current seen snaps stmt (UnderTable table mode x)) r (meaning_comes e)
 
   -- it would succeed, and finds no room
-  pub room_comes : (reply : Reply) → shape stmt seen.source ≡ None → may_grow stmt ≡ true → is_success reply ≡ true → (change_and_reply stmt seen.source).1 ≡ reply → Comes opening current seen snaps stmt (UnderTable table mode (Msg (plain 1105)))
+  pub room_comes : (reply : Reply) → shape stmt seen.source ≡ None → may_grow stmt ≡ true → is_success reply ≡ true → (change_and_reply stmt seen.source).1 ≡ reply → Comes opening current seen snaps stmt (UnderTable table mode (Msg (plain NO_ROOM)))
   room_comes reply e g s r = (first_lock, second_lock e, λ st k ready. inr (NoRoom stmt reply g s (third e st k ready ∙ ap Replies r)))
 
 -- CREATE TABLE IN THE SOURCE
@@ -155,14 +156,14 @@ module _ (opening : Opening) (current : List ℕ) (seen : Seen) (snaps : List Sn
   stmt_here : Stmt
   stmt_here = CreateTable name cols
 
-  past : (st : Plain) (k : ℕ) (locks : Locks) → Ready opening current seen st k locks → next_of st k (Some (CreateTable name cols)) ≡ cond (length cols == 0) (Replies (Msg (plain 60016))) (under st k All X (unless_shape (shape (CreateTable name cols) seen.source) (answers (CreateTable name cols) seen.source)))
+  past : (st : Plain) (k : ℕ) (locks : Locks) → Ready opening current seen st k locks → next_of st k (Some (CreateTable name cols)) ≡ cond (length cols == 0) (Replies (Msg (plain BAD_DEFINITION))) (under st k All X (unless_shape (shape (CreateTable name cols) seen.source) (answers (CreateTable name cols) seen.source)))
   past st k locks ready =
       built st k (CreateTable name cols) refl
       ∙ may_write opening current seen st k locks ready here _
       ∙ (let d = ready.depth in rw d refl)
-      ∙ ap (λ t. cond (length cols == 0) (Replies (Msg (plain 60016))) (under st k All X (unless_shape (shape (CreateTable name cols) t) (answers (CreateTable name cols) t)))) (seen_tables opening current seen st k locks ready)
+      ∙ ap (λ t. cond (length cols == 0) (Replies (Msg (plain BAD_DEFINITION))) (under st k All X (unless_shape (shape (CreateTable name cols) t) (answers (CreateTable name cols) t)))) (seen_tables opening current seen st k locks ready)
 
-  pub bad_comes : (length cols == 0) ≡ true → Comes opening current seen snaps (CreateTable name cols) (AtOnce (Msg (plain 60016)))
+  pub bad_comes : (length cols == 0) ≡ true → Comes opening current seen snaps (CreateTable name cols) (AtOnce (Msg (plain BAD_DEFINITION)))
   bad_comes e st k ready is = inl (past st k [] ready ∙ (rw e refl))
 
   module _ (good : (length cols == 0) ≡ false) where
@@ -178,5 +179,5 @@ module _ (opening : Opening) (current : List ℕ) (seen : Seen) (snaps : List Sn
     pub made_comes : shape (CreateTable name cols) seen.source ≡ None → Comes opening current seen snaps (CreateTable name cols) (UnderAll X Ok)
     made_comes e = (lock_all, λ st k ready. inl (locked_all st k ready ∙ (rw e refl)))
 
-    pub full_comes : shape (CreateTable name cols) seen.source ≡ None → Comes opening current seen snaps (CreateTable name cols) (UnderAll X (Msg (plain 1105)))
+    pub full_comes : shape (CreateTable name cols) seen.source ≡ None → Comes opening current seen snaps (CreateTable name cols) (UnderAll X (Msg (plain NO_ROOM)))
     full_comes e = (lock_all, λ st k ready. inr (NoRoom (CreateTable name cols) Ok refl refl (locked_all st k ready ∙ (rw e refl))))

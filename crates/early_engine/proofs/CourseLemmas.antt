@@ -12,6 +12,7 @@ use Rattle.plain_model.specs.declared.reply.Message.{Message}
 use Rattle.plain_model.specs.declared.reply.Reply.{Reply}
 use Rattle.plain_model.specs.declared.reply.Reply.TheVariants.{Msg, Rows, Count}
 use Rattle.plain_model.specs.declared.reply.Reply.TheVariants.{Ok as Fine}
+use Rattle.plain_model.specs.declared.reply.TheConstants.Message.{NO_MEMORY, SUSPECT}
 use Rattle.plain_model.specs.Tables.{Tables}
 use Rattle.plain_model.specs.State.{committed, copy}
 use Rattle.plain_model.specs.Messages.{plain}
@@ -160,8 +161,8 @@ module _ (e : Run) (safe : Safe e) (i : ℕ) (next : HasNext e i) where
   -- A SELECT IN A SNAPSHOT
 
   module _ (s : SnapNo) (name : List ℕ) (seeing : IsSeeing e.opening (seat_at e i).current e.shown (next_stmt e i) s name) (v : Shown) (kept : Kept) (pushes : Pushes e.shown v) (ordered : IsCatalog (catalog v)) (reply : Reply)
-      (does : Does (i + 1) ((seat_at e i).said + 1) (AtOnce reply) e.kept kept e.shown v) (lost : state_of v s ≡ Suspect → reply ≡ Msg (plain 926))
-      (replies : IsKept v s → (tables : Tables) → AreTables (data_pages v) (view v s) tables → (reply ≡ Msg (plain 701)) ⊎ (reply ≡ selected (next_stmt e i) name tables)) where
+      (does : Does (i + 1) ((seat_at e i).said + 1) (AtOnce reply) e.kept kept e.shown v) (lost : state_of v s ≡ Suspect → reply ≡ Msg (plain SUSPECT))
+      (replies : IsKept v s → (tables : Tables) → AreTables (data_pages v) (view v s) tables → (reply ≡ Msg (plain NO_MEMORY)) ⊎ (reply ≡ selected (next_stmt e i) name tables)) where
     abbrev current : List ℕ
     current = (seat_at e i).current
 

@@ -18,6 +18,7 @@ use Rattle.plain_model.specs.declared.event.Event.{Event}
 use Rattle.plain_model.specs.declared.event.Event.TheVariants.{Said}
 use Rattle.plain_model.specs.declared.reply.Reply.{Reply}
 use Rattle.plain_model.specs.declared.reply.Reply.TheVariants.{Msg}
+use Rattle.plain_model.specs.declared.reply.TheConstants.Message.{FILE_FAILED, NO_ROOM}
 use Rattle.plain_model.specs.Tables.{Tables}
 use Rattle.plain_model.specs.Journal.{Opening}
 use Rattle.plain_model.specs.Messages.{plain}
@@ -274,12 +275,12 @@ module _ (source file : List ℕ) (disk0 : Disk) (v0 : Shown) (snap : List ℕ) 
       room = room_next source file disk0 v0 snap files of e i asked disk e.shown kept (event ∷ []) more_here room_here (omega arith) marked_here others_here reached reaches sessions_are;
     }
 
-  module _ (places : IsTrue e.disk.told → (name : List ℕ) → (((code == 60021) ≡ true) × (list_any (bytes_eq name) (next_words.sparse_names files) ≡ true)) ⊎ (finite.contains_key disk.folder name ≡ finite.contains_key e.disk.folder name)) where
+  module _ (places : IsTrue e.disk.told → (name : List ℕ) → (((code == FILE_FAILED) ≡ true) × (list_any (bytes_eq name) (next_words.sparse_names files) ≡ true)) ⊎ (finite.contains_key disk.folder name ≡ finite.contains_key e.disk.folder name)) where
     abbrev names : List (List ℕ)
     names = next_words.sparse_names files
 
     -- no name comes in doubt
-    plain_base : (code == 60021) ≡ false → IsBase (state e)
+    plain_base : (code == FILE_FAILED) ≡ false → IsBase (state e)
     plain_base n = record {
       sessions = refl;
       opened = refl;
@@ -304,7 +305,7 @@ module _ (source file : List ℕ) (disk0 : Disk) (v0 : Shown) (snap : List ℕ) 
         or_true false = refl
 
     -- the new names come in doubt
-    doubt_base : (code == 60021) ≡ true → IsBase (with_doubt (state e) names)
+    doubt_base : (code == FILE_FAILED) ≡ true → IsBase (with_doubt (state e) names)
     doubt_base y = record {
       sessions = refl;
       opened = refl;
@@ -328,7 +329,7 @@ module _ (source file : List ℕ) (disk0 : Disk) (v0 : Shown) (snap : List ℕ) 
     }
 
     pub safe_refused : Safe (record e { disk = disk; shown = e.shown; seats = set e.seats i (record { current = (seat_at e i).current; said = (seat_at e i).said + 1; gone = false }); kept = kept })
-    safe_refused = elim (cases_Bool (code == 60021)) [
+    safe_refused = elim (cases_Bool (code == FILE_FAILED)) [
       | inl y ↦ safe_by (with_doubt (state e) names) (doubt_base y)
       | inr n ↦ safe_by (state e) (plain_base n)
     ]
@@ -348,12 +349,12 @@ refused_safe source file disk0 v0 snap files of e i asked disk kept0 kept who n 
     (refuses.told ∙ sym told_is)
     (refuses.out ∙ ap (λ (d : Disk). d.out) (sym asked.disk_is))
     (λ told. subst (λ (r : Reply). Allowed (state e) (i + 1) (CreateSnap snap files of) r) refuses.is (may (sym told_is ∙ told)))
-    (λ told name. subst (λ (d : Disk). (((refuses.code == 60021) ≡ true) × (list_any (bytes_eq name) (next_words.sparse_names files) ≡ true)) ⊎ (finite.contains_key disk.folder name ≡ finite.contains_key d.folder name)) (sym asked.disk_is) (refuses.places (sym told_is ∙ told) name)))
+    (λ told name. subst (λ (d : Disk). (((refuses.code == FILE_FAILED) ≡ true) × (list_any (bytes_eq name) (next_words.sparse_names files) ≡ true)) ⊎ (finite.contains_key disk.folder name ≡ finite.contains_key d.folder name)) (sym asked.disk_is) (refuses.places (sym told_is ∙ told) name)))
 
 -- a refusal says nothing of room on pages
 pub refused_room : (names : List (List ℕ)) (old new : Disk) (reply : Reply) → Refuses names old new reply → IsNoShortage reply
-refused_room ns old new reply r = subst IsNoShortage (sym r.is) (λ e. eqb-false r.code 1105 r.roomy e)
+refused_room ns old new reply r = subst IsNoShortage (sym r.is) (λ e. eqb-false r.code NO_ROOM r.roomy e)
 
 -- and says only where it is so that the volume failed
 pub refused_volume : (names : List (List ℕ)) (old new : Disk) (reply : Reply) → Refuses names old new reply → IsVolumeReply old.failures new.failures reply
-refused_volume ns old new reply r = subst (IsVolumeReply old.failures new.failures) (sym r.is) (λ e. r.cause (ap (λ n. n == 60021) e))
+refused_volume ns old new reply r = subst (IsVolumeReply old.failures new.failures) (sym r.is) (r.early, λ e. r.cause (ap (λ n. n == FILE_FAILED) e))

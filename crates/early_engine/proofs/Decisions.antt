@@ -15,6 +15,7 @@ use Rattle.plain_model.specs.declared.reply.Reply.TheVariants.{Ok, Count, Rows, 
 use Rattle.plain_model.specs.declared.stmt.SelectStmt.{SelectStmt}
 use Rattle.plain_model.specs.declared.stmt.Stmt.{Stmt}
 use Rattle.plain_model.specs.declared.stmt.Stmt.TheVariants.{CreateTable, Select}
+use Rattle.plain_model.specs.declared.reply.TheConstants.Message.{FILE_FAILED, NO_ROOM, NO_TABLE, TABLE_IS_THERE}
 use Rattle.plain_model.specs.Journal.{Opening}
 use Rattle.plain_model.specs.Meaning.{shape, change_and_reply}
 use Rattle.plain_model.specs.Messages.{plain}
@@ -34,7 +35,7 @@ use Rattle.table_pages.specs.Plans.{Plans}
 use Rattle.early_engine.specs.declared.answer.Answer.{Answer}
 use Rattle.early_engine.specs.declared.answer.Answer.TheVariants.{AtOnce, UnderAll, UnderTable}
 use Rattle.early_engine.specs.declared.decision.Decision.{Decision}
-use Rattle.early_engine.specs.Causes.{IsForRows, IsRoomReply, IsNoFailure}
+use Rattle.early_engine.specs.Causes.{IsForRows, IsRoomReply, IsNoFailure, is_early}
 use Rattle.early_engine.specs.Changing.{is_change}
 use Rattle.early_engine.specs.Deciding.{Setting, IsDecision, IsStill, IsShort}
 use Rattle.early_engine.specs.Pushing.{snaps_of}
@@ -74,18 +75,18 @@ decides_only opening source current v seen stmt answer setting same simple room 
 }
 
 -- a refusal of another number says nothing of room or of the volume
-pub other_number : (v : Shown) (stmt : Stmt) (n : ℕ) (carried : Carried) → (n == 1105) ≡ false → IsRoomReply v stmt (Msg (record { number = n; carried = carried }))
-other_number v stmt n carried e = λ is. absurd (eqb-false n 1105 e is)
+pub other_number : (v : Shown) (stmt : Stmt) (n : ℕ) (carried : Carried) → (n == NO_ROOM) ≡ false → IsRoomReply v stmt (Msg (record { number = n; carried = carried }))
+other_number v stmt n carried e = λ is. absurd (eqb-false n NO_ROOM e is)
 
-pub no_failure : (n : ℕ) (carried : Carried) → (n == 60021) ≡ false → IsNoFailure (Msg (record { number = n; carried = carried }))
-no_failure n carried e = λ is. eqb-false n 60021 e is
+pub no_failure : (n : ℕ) (carried : Carried) → is_early n ≡ false → (n == FILE_FAILED) ≡ false → IsNoFailure (Msg (record { number = n; carried = carried }))
+no_failure n carried early e = (early, λ is. eqb-false n FILE_FAILED e is)
 
 -- a refusal that carries nothing, or a place, of a number that asks for no cause
-pub refuses_only : (opening : Opening) (source current : List ℕ) (v : Shown) (seen : Seen) (stmt : Stmt) (answer : Answer) (n : ℕ) (carried : Carried) → reply_of answer ≡ Msg (record { number = n; carried = carried }) → (n == 1105) ≡ false → (n == 60021) ≡ false →
+pub refuses_only : (opening : Opening) (source current : List ℕ) (v : Shown) (seen : Seen) (stmt : Stmt) (answer : Answer) (n : ℕ) (carried : Carried) → reply_of answer ≡ Msg (record { number = n; carried = carried }) → (n == NO_ROOM) ≡ false → is_early n ≡ false → (n == FILE_FAILED) ≡ false →
     Setting opening source v seen → IsPlain stmt (reply_of answer) → Comes opening current seen (snaps_of v) stmt answer → IsDecision opening current v seen stmt (record { answer = answer; edits = [] })
-refuses_only opening source current v seen stmt answer n carried is r f setting simple comes =
+refuses_only opening source current v seen stmt answer n carried is r early f setting simple comes =
     decides_only opening source current v seen stmt answer setting (ap (λ (x : Reply). tables_after stmt x seen.source) is) simple
-    (subst (λ (x : Reply). IsRoomReply v stmt x) (sym is) (other_number v stmt n carried r)) (subst IsNoFailure (sym is) (no_failure n carried f)) comes
+    (subst (λ (x : Reply). IsRoomReply v stmt x) (sym is) (other_number v stmt n carried r)) (subst IsNoFailure (sym is) (no_failure n carried early f)) comes
 
 -- a definition has columns
 pub some_columns : (cols : List Column) → is_definition cols ≡ true → (length cols == 0) ≡ false
@@ -96,12 +97,12 @@ module _ (opening : Opening) (v : Shown) (seen : Seen) (setting : Setting openin
   -- CREATE TABLE
 
   module _ (name : List ℕ) (cols : List Column) (definition : is_definition cols ≡ true) where
-    pub create_taken : (t : Table) → finite.get seen.source name ≡ Some t → IsDecision opening opening.source v seen (CreateTable name cols) (record { answer = UnderAll X (Msg (plain 2714)); edits = [] })
-    create_taken t there = refuses_only opening opening.source opening.source v seen (CreateTable name cols) (UnderAll X (Msg (plain 2714))) 2714 Nothing refl refl refl setting tt
-        (taken_comes opening opening.source seen (snaps_of v) refl name cols (some_columns cols definition) (plain 2714) (ap is_new there))
+    pub create_taken : (t : Table) → finite.get seen.source name ≡ Some t → IsDecision opening opening.source v seen (CreateTable name cols) (record { answer = UnderAll X (Msg (plain TABLE_IS_THERE)); edits = [] })
+    create_taken t there = refuses_only opening opening.source opening.source v seen (CreateTable name cols) (UnderAll X (Msg (plain TABLE_IS_THERE))) TABLE_IS_THERE Nothing refl refl refl refl setting tt
+        (taken_comes opening opening.source seen (snaps_of v) refl name cols (some_columns cols definition) (plain TABLE_IS_THERE) (ap is_new there))
 
-    pub create_full : finite.get seen.source name ≡ None → LacksPage v name cols → IsDecision opening opening.source v seen (CreateTable name cols) (record { answer = UnderAll X (Msg (plain 1105)); edits = [] })
-    create_full none lacks = decides_only opening opening.source opening.source v seen (CreateTable name cols) (UnderAll X (Msg (plain 1105))) setting refl tt (λ _. lacks) (no_failure 1105 Nothing refl)
+    pub create_full : finite.get seen.source name ≡ None → LacksPage v name cols → IsDecision opening opening.source v seen (CreateTable name cols) (record { answer = UnderAll X (Msg (plain NO_ROOM)); edits = [] })
+    create_full none lacks = decides_only opening opening.source opening.source v seen (CreateTable name cols) (UnderAll X (Msg (plain NO_ROOM))) setting refl tt (λ _. lacks) (no_failure NO_ROOM Nothing refl refl)
         (full_comes opening opening.source seen (snaps_of v) refl name cols (some_columns cols definition) (ap is_new none))
 
     pub create_made : (e : Edit) → finite.get seen.source name ≡ None → (LacksPage v name cols → ⊥) → Carries v (e ∷ []) (applied (Add name cols) seen.source) → IsDecision opening opening.source v seen (CreateTable name cols) (record { answer = UnderAll X Ok; edits = e ∷ [] })
@@ -118,9 +119,9 @@ module _ (opening : Opening) (v : Shown) (seen : Seen) (setting : Setting openin
   -- SELECT
 
   module _ (s : SelectStmt) where
-    pub select_none : finite.get seen.source s.table ≡ None → IsDecision opening opening.source v seen (Select s) (record { answer = UnderAll S (Msg (plain 208)); edits = [] })
-    select_none none = refuses_only opening opening.source opening.source v seen (Select s) (UnderAll S (Msg (plain 208))) 208 Nothing refl refl refl setting tt
-        (shape_comes opening opening.source seen (snaps_of v) refl (Select s) s.table S (of_select s refl) (plain 208) (ap (shape_over (Select s)) none))
+    pub select_none : finite.get seen.source s.table ≡ None → IsDecision opening opening.source v seen (Select s) (record { answer = UnderAll S (Msg (plain NO_TABLE)); edits = [] })
+    select_none none = refuses_only opening opening.source opening.source v seen (Select s) (UnderAll S (Msg (plain NO_TABLE))) NO_TABLE Nothing refl refl refl refl setting tt
+        (shape_comes opening opening.source seen (snaps_of v) refl (Select s) s.table S (of_select s refl) (plain NO_TABLE) (ap (shape_over (Select s)) none))
 
     module _ (t : Table) (there : finite.get seen.source s.table ≡ Some t) where
       pub select_refused : (m : Message) → shape_over (Select s) (Some t) ≡ Some m → IsDecision opening opening.source v seen (Select s) (record { answer = UnderAll S (Msg m); edits = [] })
@@ -150,9 +151,9 @@ Planned v i name t cut put plan =
 -- INSERT, UPDATE AND DELETE
 
 module _ (opening : Opening) (v : Shown) (seen : Seen) (setting : Setting opening opening.source v seen) (stmt : Stmt) (h : is_change stmt ≡ true) where
-  pub change_none : finite.get seen.source (table_named stmt) ≡ None → IsDecision opening opening.source v seen stmt (record { answer = UnderAll S (Msg (plain 208)); edits = [] })
-  change_none none = refuses_only opening opening.source opening.source v seen stmt (UnderAll S (Msg (plain 208))) 208 Nothing refl refl refl setting (change_plain stmt (Msg (plain 208)) h)
-      (shape_comes opening opening.source seen (snaps_of v) refl stmt (table_named stmt) X (of_change stmt h) (plain 208) (ap (shape_over stmt) none ∙ shape_without stmt h))
+  pub change_none : finite.get seen.source (table_named stmt) ≡ None → IsDecision opening opening.source v seen stmt (record { answer = UnderAll S (Msg (plain NO_TABLE)); edits = [] })
+  change_none none = refuses_only opening opening.source opening.source v seen stmt (UnderAll S (Msg (plain NO_TABLE))) NO_TABLE Nothing refl refl refl refl setting (change_plain stmt (Msg (plain NO_TABLE)) h)
+      (shape_comes opening opening.source seen (snaps_of v) refl stmt (table_named stmt) X (of_change stmt h) (plain NO_TABLE) (ap (shape_over stmt) none ∙ shape_without stmt h))
 
   module _ (t : Table) (there : finite.get seen.source (table_named stmt) ≡ Some t) where
     pub change_refused : (m : Message) → shape_over stmt (Some t) ≡ Some m → IsDecision opening opening.source v seen stmt (record { answer = UnderAll S (Msg m); edits = [] })
@@ -224,11 +225,11 @@ module _ (opening : Opening) (v : Shown) (seen : Seen) (setting : Setting openin
         fine = fine_is;
       }
 
-      full_here : Short → IsDecision opening opening.source v seen stmt (record { answer = UnderTable (table_named stmt) X (Msg (plain 1105)); edits = [] })
+      full_here : Short → IsDecision opening opening.source v seen stmt (record { answer = UnderTable (table_named stmt) X (Msg (plain NO_ROOM)); edits = [] })
       full_here short = elim filled [
         | FillsPuts grows none reply ↦
-            decides_only opening opening.source opening.source v seen stmt (UnderTable (table_named stmt) X (Msg (plain 1105))) setting refl (change_plain stmt (Msg (plain 1105)) h)
-            (λ _. lacks_place v stmt h grows (i, effect.puts, for_rows none, short_of none short)) (no_failure 1105 Nothing refl)
+            decides_only opening opening.source opening.source v seen stmt (UnderTable (table_named stmt) X (Msg (plain NO_ROOM))) setting refl (change_plain stmt (Msg (plain NO_ROOM)) h)
+            (λ _. lacks_place v stmt h grows (i, effect.puts, for_rows none, short_of none short)) (no_failure NO_ROOM Nothing refl refl)
             (room_comes opening opening.source seen (snaps_of v) refl stmt (table_named stmt) X (of_change stmt h) (Count (length effect.puts)) shaped grows refl (replies ∙ reply))
         | FillsCuts grows none reply ↦ absurd (always_cut t.cols effect.cuts effect.puts (content (img v (place i))) none short)
         | FillsNone m mild no_puts no_cuts reply ↦ absurd (always_cut t.cols effect.cuts effect.puts (content (img v (place i))) no_puts short)
@@ -248,7 +249,7 @@ module _ (opening : Opening) (v : Shown) (seen : Seen) (setting : Setting openin
       subst (λ (n : List ℕ). IsDecision opening opening.source v seen stmt (record { answer = UnderTable n X effect.reply; edits = edits })) named
       (made_here opening v seen setting stmt h t there_named effect does i within holds_named edits (subst (λ (n : List ℕ). Planned v i n t effect.cuts effect.puts (Some edits)) (sym named) plan))
 
-  pub change_full : Planned v i name t effect.cuts effect.puts None → IsDecision opening opening.source v seen stmt (record { answer = UnderTable name X (Msg (plain 1105)); edits = [] })
+  pub change_full : Planned v i name t effect.cuts effect.puts None → IsDecision opening opening.source v seen stmt (record { answer = UnderTable name X (Msg (plain NO_ROOM)); edits = [] })
   change_full short =
-      subst (λ (n : List ℕ). IsDecision opening opening.source v seen stmt (record { answer = UnderTable n X (Msg (plain 1105)); edits = [] })) named
+      subst (λ (n : List ℕ). IsDecision opening opening.source v seen stmt (record { answer = UnderTable n X (Msg (plain NO_ROOM)); edits = [] })) named
       (full_here opening v seen setting stmt h t there_named effect does i within holds_named short)

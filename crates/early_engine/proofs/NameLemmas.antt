@@ -20,12 +20,14 @@ use Rattle.plain_model.specs.declared.event.Event.TheVariants.{CutAt, Said}
 use Rattle.plain_model.specs.declared.reply.Reply.{Reply}
 use Rattle.plain_model.specs.declared.reply.Reply.TheVariants.{Msg}
 use Rattle.plain_model.specs.declared.reply.Reply.TheVariants as reply
+use Rattle.plain_model.specs.declared.reply.TheConstants.Message.{FILE_FAILED, NO_ROOM}
 use Rattle.plain_model.specs.Messages.{plain}
 use Rattle.page_base.specs.declared.numbers.SessNo.{SessNo}
 use Rattle.page_dev.proofs.OutLemmas.{put_back}
 use Rattle.early_pages.specs.Catalog.{Snap, no_snap}
 use Rattle.early_pages.specs.Shown.{Shown}
 use Rattle.std.proofs.lemmas.List.Folds.{list_any-append}
+use Rattle.early_engine.specs.Causes.{is_early}
 use Rattle.early_engine.specs.Entering as kept
 use Rattle.early_engine.specs.Safe.{Disk}
 use Rattle.early_engine.specs.Creating.{Reason, VolumeFailed, HasFile, HasNoPlace, HasNoMemory, Refuses, GivesBack, Makes, cut_events}
@@ -153,26 +155,27 @@ refused_back path old mid new reply told fresh made out unused later file_later 
             let is : name ≡ path = (bytes_eq-Decides name path).0 same in
             elim back.either [
               | inl seven ↦ inr (ap (finite.contains_key new.folder) is ∙ back.freed (told_mid t) seven ∙ sym (fresh t) ∙ ap (finite.contains_key old.folder) (sym is))
-              | inr f ↦ inl (ap (λ n. n == 60021) f.0, ap (λ b. b || false) same)
+              | inr f ↦ inl (ap (λ n. n == FILE_FAILED) f.0, ap (λ b. b || false) same)
             ]
         | inr other ↦ inr (back.places (told_mid t) name other ∙ ap (λ m. finite.contains_key m name) (made t) ∙ key-insert_other old.folder path Out name other)
       ];
       out = back.out ∙ ap (λ o. finset.remove o path) out ∙ put_back old.out path unused;
       cause = λ y. elim back.either [
-        | inl seven ↦ absurd (let z : false ≡ true = sym (ap (λ n. n == 60021) seven) ∙ y in cc)
+        | inl seven ↦ absurd (let z : false ≡ true = sym (ap (λ n. n == FILE_FAILED) seven) ∙ y in cc)
         | inr f ↦ later_rose old.failures mid.failures new.failures later f.1
       ];
-      roomy = elim back.either [ inl seven ↦ ap (λ n. n == 1105) seven | inr f ↦ ap (λ n. n == 1105) f.0 ];
+      roomy = elim back.either [ inl seven ↦ ap (λ n. n == NO_ROOM) seven | inr f ↦ ap (λ n. n == NO_ROOM) f.0 ];
+      early = elim back.either [ inl seven ↦ ap is_early seven | inr f ↦ ap is_early f.0 ];
       failures = let a = back.failures in omega (arith, a, later);
       file_failures = let a = back.file_failures in omega (arith, a, file_later);
     }
 
 -- a file that couldn't be made, and whose name was removed
-pub refused_failed : (path : List ℕ) (old mid new : Disk) (reply : Reply) → reply ≡ Msg (plain 60021) → mid.told ≡ old.told → new.told ≡ mid.told →
+pub refused_failed : (path : List ℕ) (old mid new : Disk) (reply : Reply) → reply ≡ Msg (plain FILE_FAILED) → mid.told ≡ old.told → new.told ≡ mid.told →
     (IsTrue old.told → finite.remove mid.folder path ≡ finite.remove old.folder path) → (IsTrue mid.told → (q : List ℕ) → bytes_eq q path ≡ false → finite.contains_key new.folder q ≡ finite.contains_key mid.folder q) →
     mid.out ≡ old.out → new.out ≡ mid.out → Rose old.failures mid.failures → old.failures ≤ mid.failures → mid.failures ≤ new.failures → old.file_failures ≤ mid.file_failures → mid.file_failures ≤ new.file_failures → Refuses (path ∷ []) old new reply
 refused_failed path old mid new reply is told told' opens others out out' rose later later' file_later file_later' = record {
-  code = 60021;
+  code = FILE_FAILED;
   is = is;
   told = told' ∙ told;
   places = λ t name. elim (cases_Bool (bytes_eq name path)) [
@@ -182,6 +185,7 @@ refused_failed path old mid new reply is told told' opens others out out' rose l
   out = out' ∙ out;
   cause = λ y. rose_later old.failures mid.failures new.failures rose later';
   roomy = refl;
+  early = refl;
   failures = omega (arith, later, later');
   file_failures = omega (arith, file_later, file_later');
 }
@@ -196,6 +200,7 @@ refuses_none names old new reply r = record {
   out = r.out;
   cause = r.cause;
   roomy = r.roomy;
+  early = r.early;
   failures = r.failures;
   file_failures = r.file_failures;
 }
@@ -211,6 +216,7 @@ module _ (old mid : Disk) (told : mid.told ≡ old.told) (folder : IsTrue old.to
     out = r.out ∙ out;
     cause = λ y. later_rose old.failures mid.failures new.failures later (r.cause y);
     roomy = r.roomy;
+    early = r.early;
     failures = let a = r.failures in omega (arith, a, later);
     file_failures = let a = r.file_failures in omega (arith, a, file_later);
   }

@@ -12,6 +12,7 @@ use Rattle.plain_model.specs.Tables.{Table, Tables}
 use Rattle.plain_model.specs.Messages.{plain}
 use Rattle.plain_model.specs.declared.reply.Reply.{Reply}
 use Rattle.plain_model.specs.declared.reply.Reply.TheVariants.{Msg}
+use Rattle.plain_model.specs.declared.reply.TheConstants.Message.{NO_TABLE}
 use Rattle.early_pages.specs.declared.state.Place.{Place}
 use Rattle.early_pages.specs.declared.state.Place.TheVariants.{Sparse, Through}
 use Rattle.early_pages.specs.Sparse as sparse
@@ -57,7 +58,7 @@ module _ (v w : Shown) (s : SnapNo) (i : ℕ) (name image : List ℕ) (pushes : 
       below = subst (λ m. i < m) n_is lt
 
       -- a blank page ends the search
-      pub blank_ends : (stmt : Stmt) → IsSelect stmt name → Shows image name Blank → Msg (plain 208) ≡ selected stmt name tables
+      pub blank_ends : (stmt : Stmt) → IsSelect stmt name → Shows image name Blank → Msg (plain NO_TABLE) ≡ selected stmt name tables
       blank_ends stmt select shows =
           let none = passed_to_blank (data_pages w) (slots_of (view w s)) tables are.says i name below are.packed (subst (λ (x : List ℕ). slot_at (content x) 0 ≡ []) read shows) still in
           select_nothing stmt name select ∙ sym (ap (replied stmt) none)
@@ -74,5 +75,5 @@ module _ (v w : Shown) (s : SnapNo) (i : ℕ) (name image : List ℕ) (pushes : 
       damaged_never at shows = shows (subst IsPage (sym read) (are.pages (place i)))
 
 -- all pages were passed
-pub all_end : (stmt : Stmt) (w : Shown) (s : SnapNo) (i : ℕ) (name : List ℕ) (tables : Tables) → IsSelect stmt name → AreTables (data_pages w) (view w s) tables → data_pages w ≤ i → Passed (slots_of (view w s)) i name → Msg (plain 208) ≡ selected stmt name tables
+pub all_end : (stmt : Stmt) (w : Shown) (s : SnapNo) (i : ℕ) (name : List ℕ) (tables : Tables) → IsSelect stmt name → AreTables (data_pages w) (view w s) tables → data_pages w ≤ i → Passed (slots_of (view w s)) i name → Msg (plain NO_TABLE) ≡ selected stmt name tables
 all_end stmt w s i name tables select are le passed = select_nothing stmt name select ∙ sym (ap (replied stmt) (passed_all (data_pages w) (slots_of (view w s)) tables are.says i name le passed))

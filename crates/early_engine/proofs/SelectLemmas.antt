@@ -18,6 +18,7 @@ use Rattle.plain_model.specs.declared.stmt.SelectStmt.{SelectStmt}
 use Rattle.plain_model.specs.declared.stmt.Stmt.{Stmt}
 use Rattle.plain_model.specs.declared.stmt.Stmt.TheVariants.{Select}
 use Rattle.plain_model.specs.declared.stmt.Sum.{Sum}
+use Rattle.plain_model.specs.declared.reply.TheConstants.Message.{NO_COLUMN, NO_TABLE, TYPE_CLASH}
 use Rattle.plain_model.specs.Messages.{plain, first_that}
 use Rattle.plain_model.specs.Outcomes.{taken_from, all_of, or_overflow, keeps}
 use Rattle.plain_model.specs.Selecting.{shown, shown_of, selected_row, rows_reply, select_rows}
@@ -29,14 +30,14 @@ use Rattle.early_pages.specs.Shown.{Shown}
 use Rattle.early_engine.specs.Causes.{IsNoShortage, IsRoomReply}
 use Rattle.early_engine.specs.Seeing.{unless_refused, replied, IsSelect}
 use Rattle.early_engine.specs.Stepping.{tables_after}
-use Rattle.early_engine.proofs.Mild.{IsHarmless, IsMild, AreMild, other_numbers, mild_8115, mild_overflow, mild_behind, mild_rows}
+use Rattle.early_engine.proofs.Mild.{IsHarmless, IsMild, AreMild, other_numbers, mild_number, mild_overflow, mild_behind, mild_rows}
 
 harmless_rows : (cols : List Column) (order : List OrderItem) (taken : Result (List (List Value × List Value)) Message) → AreMild taken → IsHarmless (rows_reply cols order taken)
 harmless_rows cols order (result.Ok taken) h = (tt, tt)
 harmless_rows cols order (result.Err m) h = h
 
 harmless_row : (values : Option (List Value)) → IsHarmless (totals_row values)
-harmless_row None = mild_8115
+harmless_row None = mild_number
 harmless_row (Some values) = (tt, tt)
 
 harmless_totals : (cols : List Column) (sums : List Sum) (taken : Result (List (List Value)) Message) → AreMild taken → IsHarmless (totals_reply cols sums taken)
@@ -63,9 +64,9 @@ harmless_selected (Exprs es) filter order t = harmless_select_rows (Exprs es) fi
 harmless_selected (Sums ss) filter order t =
     harmless_totals t.cols ss (taken_from 1 (map (summed_row ss filter t.cols) (rows_of t))) (mild_rows (summed_row ss filter t.cols) (mild_summed ss filter t.cols) 1 (rows_of t))
 
-harmless_shape : (lost ill : Bool) (reply : Reply) → IsHarmless reply → IsHarmless (unless_refused (option_map plain (first_that ((lost, 207) ∷ (ill, 60013) ∷ []))) reply)
-harmless_shape true ill reply h = other_numbers 207 refl refl
-harmless_shape false true reply h = other_numbers 60013 refl refl
+harmless_shape : (lost ill : Bool) (reply : Reply) → IsHarmless reply → IsHarmless (unless_refused (option_map plain (first_that ((lost, NO_COLUMN) ∷ (ill, TYPE_CLASH) ∷ []))) reply)
+harmless_shape true ill reply h = other_numbers NO_COLUMN refl refl refl
+harmless_shape false true reply h = other_numbers TYPE_CLASH refl refl refl
 harmless_shape false false reply h = h
 
 -- what a SELECT answers over a table
@@ -91,8 +92,8 @@ pub as_select : (P : Stmt → List ℕ → Type 0) (stmt : Stmt) (name : List �
 as_select P stmt name h p = subst (λ (n : List ℕ). P stmt n) h.table (subst (λ (x : Stmt). P x h.select.table) (sym h.is) p)
 
 -- a SELECT from no table
-pub select_nothing : (stmt : Stmt) (name : List ℕ) → IsSelect stmt name → Msg (plain 208) ≡ replied stmt None
-select_nothing stmt name h = as_select (λ stmt name. Msg (plain 208) ≡ replied stmt None) stmt name h refl
+pub select_nothing : (stmt : Stmt) (name : List ℕ) → IsSelect stmt name → Msg (plain NO_TABLE) ≡ replied stmt None
+select_nothing stmt name h = as_select (λ stmt name. Msg (plain NO_TABLE) ≡ replied stmt None) stmt name h refl
 
 -- what such a statement answers over a table
 pub harmless_reply : (stmt : Stmt) (name : List ℕ) → IsSelect stmt name → (t : Table) → IsHarmless (replied stmt (Some t))

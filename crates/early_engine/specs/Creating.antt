@@ -10,6 +10,7 @@ use Rattle.plain_model.specs.declared.event.Event.{Event}
 use Rattle.plain_model.specs.declared.event.Event.TheVariants.{CutAt, Said}
 use Rattle.plain_model.specs.declared.reply.Reply.{Reply}
 use Rattle.plain_model.specs.declared.reply.Reply.TheVariants.{Ok, Msg}
+use Rattle.plain_model.specs.declared.reply.TheConstants.Message.{FILE_FAILED, FILE_IS_THERE, NO_MEMORY, NO_ROOM, TOO_MANY_SNAPSHOTS}
 use Rattle.plain_model.specs.Messages.{plain}
 use Rattle.early_pages.specs.declared.state.SnapState.TheVariants.{Online}
 use Rattle.early_pages.specs.Sparse.{Sparse}
@@ -19,7 +20,7 @@ use Rattle.early_engine.specs.Ready.{Allowed}
 use Rattle.early_engine.specs.Safe.{Run, Disk, Safe, state, seat_at, script_at}
 use Rattle.early_engine.specs.Stepping.{number}
 use Rattle.early_engine.specs.Entering.{Kept}
-use Rattle.early_engine.specs.Causes.{IsNoShortage, IsVolumeReply}
+use Rattle.early_engine.specs.Causes.{IsNoShortage, IsVolumeReply, is_early}
 
 -- the statement is the next one of session i + 1, over this volume and these pages, whose source has one data file
 pub record IsAsked (source file : List ℕ) (disk : Disk) (v : Shown) (stmt : Stmt) (e : Run) (i : ℕ) : Type 0 where
@@ -43,10 +44,10 @@ has_no_place v = nat_le 8 (count v) || nat_le (2 ^ 64 - 1) (catalog v).next_cut
 -- why a snapshot whose names are right isn't made: the volume failed; the file's name is taken; there is no place for
 -- it in the catalog; no memory was found
 pub data Reason (disk disk' : Disk) (v : Shown) (path : List ℕ) (reply : Reply) : Type 0 where
-  VolumeFailed : reply ≡ Msg (plain 60021) → Rose disk.failures disk'.failures → Reason disk disk' v path reply
-  HasFile : reply ≡ Msg (plain 60005) → (IsTrue disk.told → finite.contains_key disk.folder path ≡ true) → Reason disk disk' v path reply
-  HasNoPlace : reply ≡ Msg (plain 60007) → (IsTrue disk.told → finite.contains_key disk.folder path ≡ false) → has_no_place v ≡ true → Reason disk disk' v path reply
-  HasNoMemory : reply ≡ Msg (plain 701) → Reason disk disk' v path reply
+  VolumeFailed : reply ≡ Msg (plain FILE_FAILED) → Rose disk.failures disk'.failures → Reason disk disk' v path reply
+  HasFile : reply ≡ Msg (plain FILE_IS_THERE) → (IsTrue disk.told → finite.contains_key disk.folder path ≡ true) → Reason disk disk' v path reply
+  HasNoPlace : reply ≡ Msg (plain TOO_MANY_SNAPSHOTS) → (IsTrue disk.told → finite.contains_key disk.folder path ≡ false) → has_no_place v ≡ true → Reason disk disk' v path reply
+  HasNoMemory : reply ≡ Msg (plain NO_MEMORY) → Reason disk disk' v path reply
 
 -- A refusal leaves the names as they were, on the volume and out; after a failure it is open whether the new names have
 -- files.
@@ -54,11 +55,13 @@ pub record Refuses (names : List (List ℕ)) (old new : Disk) (reply : Reply) : 
   pub code : ℕ
   pub is : reply ≡ Msg (plain code)
   pub told : new.told ≡ old.told
-  pub places : IsTrue old.told → (name : List ℕ) → (((code == 60021) ≡ true) × (list_any (bytes_eq name) names ≡ true)) ⊎ (finite.contains_key new.folder name ≡ finite.contains_key old.folder name)
+  pub places : IsTrue old.told → (name : List ℕ) → (((code == FILE_FAILED) ≡ true) × (list_any (bytes_eq name) names ≡ true)) ⊎ (finite.contains_key new.folder name ≡ finite.contains_key old.folder name)
   pub out : new.out ≡ old.out
-  pub cause : (code == 60021) ≡ true → Rose old.failures new.failures
+  pub cause : (code == FILE_FAILED) ≡ true → Rose old.failures new.failures
   -- it never says that there is no room on pages
-  pub roomy : (code == 1105) ≡ false
+  pub roomy : (code == NO_ROOM) ≡ false
+  -- nor of devices that aren't there yet
+  pub early : is_early code ≡ false
   pub failures : old.failures ≤ new.failures
   pub file_failures : old.file_failures ≤ new.file_failures
 
@@ -75,9 +78,9 @@ pub record Makes (path : List ℕ) (old new : Disk) : Type 0 where
 pub record GivesBack (path : List ℕ) (old new : Disk) (reply : Reply) : Type 0 where
   pub code : ℕ
   pub is : reply ≡ Msg (plain code)
-  pub either : (code ≡ 701) ⊎ ((code ≡ 60021) × Rose old.failures new.failures)
+  pub either : (code ≡ NO_MEMORY) ⊎ ((code ≡ FILE_FAILED) × Rose old.failures new.failures)
   pub told : new.told ≡ old.told
-  pub freed : IsTrue old.told → code ≡ 701 → finite.contains_key new.folder path ≡ false
+  pub freed : IsTrue old.told → code ≡ NO_MEMORY → finite.contains_key new.folder path ≡ false
   pub places : IsTrue old.told → (name : List ℕ) → bytes_eq name path ≡ false → finite.contains_key new.folder name ≡ finite.contains_key old.folder name
   pub out : new.out ≡ finset.remove old.out path
   pub failures : old.failures ≤ new.failures

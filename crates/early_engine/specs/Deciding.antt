@@ -6,6 +6,7 @@ use Rattle.plain_model.specs.declared.stmt.Stmt.TheVariants.{Select, CreateSnap}
 use Rattle.plain_model.specs.declared.stmt.SelectStmt.{SelectStmt}
 use Rattle.plain_model.specs.declared.reply.Reply.{Reply}
 use Rattle.plain_model.specs.declared.reply.Reply.TheVariants.{Msg}
+use Rattle.plain_model.specs.declared.reply.TheConstants.Message.{NO_ROOM}
 use Rattle.plain_model.specs.Journal.{Opening}
 use Rattle.plain_model.specs.State.{master}
 use Rattle.plain_model.specs.Next.{is_built}
@@ -44,7 +45,7 @@ IsStill answer edits = Unit {0}
 
 -- where there is no room nothing is edited
 abbrev pub IsShort : Reply → List Edit → Type 0
-IsShort (Msg m) edits = m.number ≡ 1105 → edits ≡ []
+IsShort (Msg m) edits = m.number ≡ NO_ROOM → edits ≡ []
 IsShort reply edits = Unit {0}
 
 -- the answer is what comes of the statement, with its cause, and the edits carry the tables to what the answer makes of them

@@ -30,16 +30,16 @@ use crate::refusal::{refused, refused_at};
 use early_pages::SnapPages;
 use page_base::{Columns, Name, NoMemory};
 use page_dev::PageFile;
-use plain_model::{Reply, Stmt};
+use plain_model::{Message, Reply, Stmt};
 use std::alloc::Global;
 
-// The decision, or 701 for want of memory.
+// The decision, or NO_MEMORY for want of memory.
 fn or_no_memory(alloc: Global, decision: Result<Decision, NoMemory>) -> Decision
-    ensures { MatchResult decision (λ d. result ≡ d) (λ _. result ≡ record { answer = AtOnce (Msg (plain 701)); edits = [] }) }
+    ensures { MatchResult decision (λ d. result ≡ d) (λ _. result ≡ record { answer = AtOnce (Msg (plain Message.NO_MEMORY)); edits = [] }) }
 {
     match decision {
         Ok(decision) => decision,
-        Err(_) => only(alloc, Answer::AtOnce(refused(701))),
+        Err(_) => only(alloc, Answer::AtOnce(refused(Message::NO_MEMORY))),
     }
 }
 
@@ -53,12 +53,12 @@ fn at_once(alloc: Global, number: u32) -> Decision
 // A statement that changes tables, where the current database isn't the source.
 fn refused_outside<P: PageFile>(alloc: Global, pages: &SnapPages<P>, db: Database) -> Decision
     requires { IsPlaced (catalog pages.now) db }
-    ensures { result ≡ record { answer = AtOnce (Msg (if is_lost (catalog pages.now) db then plain 926 else plain 3906)); edits = [] } }
+    ensures { result ≡ record { answer = AtOnce (Msg (if is_lost (catalog pages.now) db then plain Message.SUSPECT else plain Message.READ_ONLY)); edits = [] } }
 {
     if is_lost(pages, db) {
-        at_once(alloc, 926)
+        at_once(alloc, Message::SUSPECT)
     } else {
-        at_once(alloc, 3906)
+        at_once(alloc, Message::READ_ONLY)
     }
 }
 
@@ -81,7 +81,7 @@ fn create<P: PageFile>(
         return refused_outside(alloc, pages, db);
     }
     if cols.is_empty() {
-        return at_once(alloc, 60016);
+        return at_once(alloc, Message::BAD_DEFINITION);
     }
     or_no_memory(alloc, create_in_source(alloc, pages, name, cols))
 }
@@ -116,10 +116,10 @@ fn enter<P: PageFile>(alloc: Global, pages: &SnapPages<P>, source: &Name, name: 
 {
     let db = find_database(pages, source, name);
     if !is_there(db) {
-        return at_once(alloc, 911);
+        return at_once(alloc, Message::NO_DATABASE);
     }
     if is_lost(pages, db) {
-        return at_once(alloc, 926);
+        return at_once(alloc, Message::SUSPECT);
     }
     only(alloc, Answer::AtOnce(Reply::Ok))
 }
@@ -141,7 +141,7 @@ fn select<P: PageFile>(
         Means opening.source (catalog pages.now) current db → IsCourse opening current pages.now seen stmt.now result }
 {
     if is_lost(pages, db) {
-        return Course::Answers(at_once(alloc, 926));
+        return Course::Answers(at_once(alloc, Message::SUSPECT));
     }
     match db {
         Database::Source => Course::Answers(or_no_memory(
@@ -149,8 +149,8 @@ fn select<P: PageFile>(
             select_in_source(alloc, pages, stmt, name),
         )),
         Database::Snap(s) => Course::See(s, *name),
-        Database::Master => Course::Answers(at_once(alloc, 208)),
-        Database::Absent => Course::Answers(at_once(alloc, 208)),
+        Database::Master => Course::Answers(at_once(alloc, Message::NO_TABLE)),
+        Database::Absent => Course::Answers(at_once(alloc, Message::NO_TABLE)),
     }
 }
 
@@ -180,8 +180,8 @@ pub(crate) fn choose<P: PageFile>(
         Stmt::CreateSnap { .. } => Course::Cut,
         Stmt::Broken { at } => Course::Answers(only(
             alloc,
-            Answer::AtOnce(refused_at(102, u64::from(*at))),
+            Answer::AtOnce(refused_at(Message::SYNTAX, u64::from(*at))),
         )),
-        _ => Course::Answers(at_once(alloc, 60098)),
+        _ => Course::Answers(at_once(alloc, Message::NOT_BUILT)),
     }
 }

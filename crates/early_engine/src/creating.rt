@@ -30,7 +30,7 @@ use crate::refusal::refused;
 use early_pages::{FileNames, SnapPages, SnapState, SparseSet};
 use page_base::{FileName, Name, NoMemory, SessNo, SnapNo};
 use page_dev::{FileList, PageFile, VolRefusal, Volume};
-use plain_model::{Event, Reply, SnapFiles};
+use plain_model::{Event, Message, Reply, SnapFiles};
 use std::alloc::Global;
 
 // A new snapshot's sparse file under its name, before the cut.
@@ -64,17 +64,17 @@ fn check_names<P: PageFile>(
 {
     let _ = pages.cat();
     if is_there(find_database(pages, source, snap)) {
-        return Err(refused(1801));
+        return Err(refused(Message::DATABASE_IS_THERE));
     }
     let from = find_database(pages, source, of);
     if !is_there(from) {
-        return Err(refused(911));
+        return Err(refused(Message::NO_DATABASE));
     }
     if !is_home(from) {
-        return Err(refused(60003));
+        return Err(refused(Message::NOT_THE_SOURCE));
     }
     if !is_the_file(files, file) {
-        return Err(refused(60004));
+        return Err(refused(Message::FILE_LIST));
     }
     Ok(())
 }
@@ -129,16 +129,16 @@ fn check_room<V: Volume>(
     ensures file_failures { V.file_failures volume.new ≡ V.file_failures volume.old }
 {
     let Ok(there) = volume.has(path) else {
-        return Err(refused(60021));
+        return Err(refused(Message::FILE_FAILED));
     };
     if there {
-        return Err(refused(60005));
+        return Err(refused(Message::FILE_IS_THERE));
     }
     if has_sparse_file(pages, path) {
-        return Err(refused(60005));
+        return Err(refused(Message::FILE_IS_THERE));
     }
     if is_full(pages) {
-        return Err(refused(60007));
+        return Err(refused(Message::TOO_MANY_SNAPSHOTS));
     }
     Ok(())
 }
@@ -170,7 +170,7 @@ fn only_file<P: PageFile>(alloc: Global, mut list: Vec<P>, file: P) -> Result<Sp
     }
 }
 
-// Puts a new file back and removes it: 701, or 60021 where one of the two fails.
+// Puts a new file back and removes it: NO_MEMORY, or FILE_FAILED where one of the two fails.
 fn give_back<V: Volume>(volume: &mut V, path: &FileName, file: V::Pages) -> Reply
     requires out { finset.contains (V.out volume.old) path.now ≡ true }
     ensures { GivesBack path.now (disk_of V.tells V.folder V.out V.failures V.file_failures volume.old) (disk_of V.tells V.folder V.out V.failures V.file_failures volume.new) result }
@@ -178,9 +178,9 @@ fn give_back<V: Volume>(volume: &mut V, path: &FileName, file: V::Pages) -> Repl
     let put = volume.put_pages(path, file).is_ok();
     let removed = volume.remove(path).is_ok();
     if put && removed {
-        refused(701)
+        refused(Message::NO_MEMORY)
     } else {
-        refused(60021)
+        refused(Message::FILE_FAILED)
     }
 }
 
@@ -202,25 +202,25 @@ fn make_file<V: Volume>(
     ensures empty { IfOk result (λ new. IsEmptyMap new.set) }
 {
     let Ok(names) = one_name(alloc, path) else {
-        return Err(refused(701));
+        return Err(refused(Message::NO_MEMORY));
     };
     let Ok(list) = Vec::with_capacity(alloc, 1) else {
-        return Err(refused(701));
+        return Err(refused(Message::NO_MEMORY));
     };
     match volume.create_pages(path, pages) {
         Ok(file) => match only_file(alloc, list, file) {
             Ok(set) => Ok(NewFile { names, set }),
             Err(file) => Err(give_back(volume, path, file)),
         },
-        Err(VolRefusal::Exists) => Err(refused(60005)),
-        Err(VolRefusal::Memory) => Err(refused(701)),
+        Err(VolRefusal::Exists) => Err(refused(Message::FILE_IS_THERE)),
+        Err(VolRefusal::Memory) => Err(refused(Message::NO_MEMORY)),
         Err(VolRefusal::Failed) => {
             let _ = volume.remove(path);
-            Err(refused(60021))
+            Err(refused(Message::FILE_FAILED))
         }
         // a call that makes a file never answers so
-        Err(VolRefusal::Absent) => Err(refused(60021)),
-        Err(VolRefusal::Length { .. }) => Err(refused(60021)),
+        Err(VolRefusal::Absent) => Err(refused(Message::FILE_FAILED)),
+        Err(VolRefusal::Length { .. }) => Err(refused(Message::FILE_FAILED)),
     }
 }
 

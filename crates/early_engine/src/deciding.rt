@@ -29,7 +29,7 @@ use crate::verdicts::verdict_on;
 use early_pages::SnapPages;
 use page_base::{Columns, Mode, Name, NoMemory};
 use page_dev::PageFile;
-use plain_model::{Reply, Stmt};
+use plain_model::{Message, Reply, Stmt};
 use std::alloc::Global;
 use stmt_eval::{Effect, Verdict};
 use table_pages::{Edit, EditList, columns, find, place, plan_change, plan_create};
@@ -58,11 +58,14 @@ pub(crate) fn create_in_source<P: PageFile>(
         IsDecision opening opening.source pages.now seen (CreateTable name.now cols.now) d) }
 {
     if let Some(_page) = find(pages, name) {
-        return Ok(only(alloc, Answer::UnderAll(Mode::X, refused(2714))));
+        return Ok(only(
+            alloc,
+            Answer::UnderAll(Mode::X, refused(Message::TABLE_IS_THERE)),
+        ));
     }
     match plan_create(alloc, pages, name, cols)? {
         Some(edit) => with_edit(alloc, Answer::UnderAll(Mode::X, Reply::Ok), edit),
-        None => Ok(only(alloc, Answer::UnderAll(Mode::X, refused(1105)))),
+        None => Ok(only(alloc, Answer::UnderAll(Mode::X, refused(Message::NO_ROOM)))),
     }
 }
 
@@ -81,7 +84,7 @@ pub(crate) fn select_in_source<P: PageFile>(
         IsDecision opening opening.source pages.now seen stmt.now d) }
 {
     let Some(i) = find(pages, name) else {
-        return Ok(only(alloc, Answer::UnderAll(Mode::S, refused(208))));
+        return Ok(only(alloc, Answer::UnderAll(Mode::S, refused(Message::NO_TABLE))));
     };
     let answer = match verdict_on(alloc, pages.image(place(i)), stmt)? {
         Verdict::Refused(message) => Answer::UnderAll(Mode::S, Reply::Msg(message)),
@@ -113,7 +116,10 @@ fn change_rows<P: PageFile>(
             answer: Answer::UnderTable(name, Mode::X, effect.reply),
             edits,
         }),
-        None => Ok(only(alloc, Answer::UnderTable(name, Mode::X, refused(1105)))),
+        None => Ok(only(
+            alloc,
+            Answer::UnderTable(name, Mode::X, refused(Message::NO_ROOM)),
+        )),
     }
 }
 
@@ -134,7 +140,7 @@ pub(crate) fn change_in_source<P: PageFile>(
         IsDecision opening opening.source pages.now seen stmt.now d) }
 {
     let Some(i) = find(pages, name) else {
-        return Ok(only(alloc, Answer::UnderAll(Mode::S, refused(208))));
+        return Ok(only(alloc, Answer::UnderAll(Mode::S, refused(Message::NO_TABLE))));
     };
     match verdict_on(alloc, pages.image(place(i)), stmt)? {
         Verdict::Refused(message) => Ok(only(

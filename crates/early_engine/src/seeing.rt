@@ -25,7 +25,7 @@ use early_pages::{Place, SnapPages};
 use page_base::{Failed, Image, Name, NoMemory, PageId, SnapNo};
 use page_dev::PageFile;
 use page_fmt::check;
-use plain_model::{Reply, Stmt};
+use plain_model::{Message, Reply, Stmt};
 use std::alloc::Global;
 use table_pages::{data_pages, is_blank, is_named, place};
 
@@ -151,17 +151,17 @@ fn shown(alloc: Global, image: &Image, stmt: &Stmt, name: &Name) -> Result<Reply
     Ok(reply_by(verdict_on(alloc, image, stmt)?))
 }
 
-// The reply of a SELECT that found the table, or 701.
+// The reply of a SELECT that found the table, or NO_MEMORY.
 fn shown_or_none(alloc: Global, image: &Image, stmt: &Stmt, name: &Name) -> Reply
     requires page { IsPage image.now }
     requires select { IsSelect stmt.now name.now }
-    ensures reply { (result ≡ Msg (plain 701)) ⊎ ((held : List ℕ) (t : Table) → Holds image.now held t → result ≡ replied stmt.now (Some t)) }
+    ensures reply { (result ≡ Msg (plain Message.NO_MEMORY)) ⊎ ((held : List ℕ) (t : Table) → Holds image.now held t → result ≡ replied stmt.now (Some t)) }
     ensures room { IsNoShortage result }
     ensures volume { IsNoFailure result }
 {
     match shown(alloc, image, stmt, name) {
         Ok(reply) => reply,
-        Err(_) => refused(701),
+        Err(_) => refused(Message::NO_MEMORY),
     }
 }
 
@@ -182,27 +182,27 @@ fn search<P: PageFile>(
     requires room { sound pages.old ≤ ledger.old.room }
     ensures pushes { Pushes pages.old pages.new }
     ensures turns { Turns ledger.old ledger.new pages.old pages.new }
-    ensures lost { state_of pages.new s ≡ Suspect → result ≡ Msg (plain 926) }
+    ensures lost { state_of pages.new s ≡ Suspect → result ≡ Msg (plain Message.SUSPECT) }
     ensures reply { IsKept pages.new s → (tables : Tables) → AreTables (data_pages pages.new) (view pages.new s) tables →
-        (result ≡ Msg (plain 701)) ⊎ (result ≡ selected stmt.now name.now tables) }
+        (result ≡ Msg (plain Message.NO_MEMORY)) ⊎ (result ≡ selected stmt.now name.now tables) }
     ensures room { IsNoShortage result }
     ensures volume { IsNoFailure result }
 {
     for i in 0..data_pages(pages) {
         match look_for(pages, ledger, s, i, name, image) {
-            Glance::Lost => return refused(926),
-            Glance::Damaged(at) => return refused_at(60026, u64::from(at)),
-            Glance::Blank => return refused(208),
+            Glance::Lost => return refused(Message::SUSPECT),
+            Glance::Damaged(at) => return refused_at(Message::DAMAGED, u64::from(at)),
+            Glance::Blank => return refused(Message::NO_TABLE),
             Glance::Named => return shown_or_none(alloc, image, stmt, name),
             Glance::Other => {}
         }
     }
-    refused(208)
+    refused(Message::NO_TABLE)
 }
 
-/// The reply of a SELECT from a table of a snapshot that isn't suspect: 208 where the snapshot has no such
-/// table, 926 where its files failed meanwhile, 701 for want of memory. Where the files don't tell what they hold, it
-/// may also be 60026, with the first wrong byte of a page.
+/// The reply of a SELECT from a table of a snapshot that isn't suspect: `NO_TABLE` where the snapshot has no such
+/// table, `SUSPECT` where its files failed meanwhile, `NO_MEMORY` for want of memory. Where the files
+/// don't tell what they hold, it may also be `DAMAGED`, with the first wrong byte of a page.
 pub(crate) fn select_in<P: PageFile>(
     alloc: Global,
     pages: &mut SnapPages<P>,
@@ -218,14 +218,14 @@ pub(crate) fn select_in<P: PageFile>(
     requires room { sound pages.old ≤ ledger.old.room }
     ensures pushes { Pushes pages.old pages.new }
     ensures turns { Turns ledger.old ledger.new pages.old pages.new }
-    ensures lost { state_of pages.new s ≡ Suspect → result ≡ Msg (plain 926) }
+    ensures lost { state_of pages.new s ≡ Suspect → result ≡ Msg (plain Message.SUSPECT) }
     ensures reply { IsKept pages.new s → (tables : Tables) → AreTables (data_pages pages.new) (view pages.new s) tables →
-        (result ≡ Msg (plain 701)) ⊎ (result ≡ selected stmt.now name.now tables) }
+        (result ≡ Msg (plain Message.NO_MEMORY)) ⊎ (result ≡ selected stmt.now name.now tables) }
     ensures room { IsNoShortage result }
     ensures volume { IsNoFailure result }
 {
     match Image::blank(alloc) {
         Ok(mut image) => search(alloc, pages, ledger, s, stmt, name, &mut image),
-        Err(_) => refused(701),
+        Err(_) => refused(Message::NO_MEMORY),
     }
 }

@@ -2,7 +2,7 @@
 use Rattle.std.specs.Prelude.{◌≡◌, ℕ, zero, suc, ◌+◌, ◌*◌, ◌/◌, ◌<◌, Bool, true, false, ◌||◌, if◌then◌else◌, List, [], IsTrue, slice_index, Result, OnOk}
 use Rattle.page_base.specs.declared.numbers.PageId.{PageId}
 use Rattle.page_base.specs.Pages.{Pages, page_or, with_page, image_at, filled}
-use Rattle.page_dev.specs.Files.{Files, Writes}
+use Rattle.page_dev.specs.Files.{Files, Writes, called}
 use Rattle.page_dev.specs.Faults.{HasCause, HasCauseAt, total}
 
 pub record Sparse : Type 0 where
@@ -27,7 +27,7 @@ faults set = total set.files.failures
 
 -- a set of no files
 abbrev pub no_set : Sparse
-no_set = record { files = record { tells = false; content = []; counts = []; failures = [] }; map = [] }
+no_set = record { files = record { tells = false; content = []; counts = []; failures = []; calls = [] }; map = [] }
 
 -- these files, with no page in the map
 abbrev pub unmarked : Files → Sparse
@@ -41,11 +41,13 @@ marked set p = record set { map = with_page set.map p true }
 abbrev pub IsEmptyMap : Sparse → Type 0
 IsEmptyMap set = (p : PageId) → is_copied set p ≡ false
 
--- the map stands, and the count of page p's file alone may rise, as it does where the call failed
+-- the map stands, page p's file was called once and no other, and its count of faults alone may rise, as it does where
+-- the call failed
 pub record UsesFiles {T E : Type 0} (p : PageId) (old new : Sparse) (result : Result T E) : Type 0 where
   pub map : new.map ≡ old.map
   pub tells : new.files.tells ≡ old.files.tells
   pub counts : new.files.counts ≡ old.files.counts
+  pub calls : new.files.calls ≡ called old.files.calls p.file
   pub cause_at : HasCauseAt p.file old.files.failures new.files.failures result
   pub cause : HasCause (faults old) (faults new) result
 

@@ -16,12 +16,11 @@ ghost use Rattle.early_pages.specs.Views.{view, IsKept, KeepsViews, CutsView, Cl
 ghost use Rattle.early_pages.specs.Slots.{slots_of};
 ghost use Rattle.early_pages.specs.declared.state.SnapState.TheVariants.{Suspect};
 
-use crate::edit::edit;
 use crate::images::blank_images;
 use crate::{FileNames, Place, SnapCat, SnapState, SparseSet};
 use page_base::{Failed, Image, Name, NoMemory, PageId, SnapNo, Table};
 use page_dev::PageFile;
-use page_fmt::NoRoom;
+use page_fmt::{NoRoom, edit};
 use std::alloc::Global;
 use std::marker::Model;
 

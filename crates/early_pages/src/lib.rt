@@ -2,7 +2,6 @@
 #![tactic(auto)]
 
 mod early_pages;
-mod edit;
 mod images;
 mod snap_cat;
 mod snapshot;

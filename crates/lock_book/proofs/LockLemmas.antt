@@ -9,7 +9,7 @@ use Rattle.page_base.specs.declared.numbers.Mode.{Mode}
 use Rattle.page_base.specs.declared.numbers.Mode.TheVariants.{S, X}
 use Rattle.lock_book.specs.declared.lock.Lock.{Lock}
 use Rattle.lock_book.specs.Modes.{conflicts, gains}
-use Rattle.lock_book.specs.Locks.{Locks, IsLockBook, IsOnce, Holds, is_lock, lock_of, with_lock, without_locks}
+use Rattle.lock_book.specs.Locks.{Locks, IsLockBook, IsOnce, Holds, is_lock, lock_of, with_lock, without_locks, without_lock}
 use Rattle.lock_book.specs.Taking.{IsFree, IsLowestInTheWay, after_taking, stronger}
 
 -- two sessions are one or two
@@ -109,6 +109,35 @@ lock_of-without_locks (lock ∷ locks) who k at ne =
           ∙ ap (cond (is_lock k at lock) (Some lock.mode)) (lock_of-without_locks locks who k at ne)
     ]
 
+-- a table that a session let go of it doesn't hold
+pub lock_of-without_lock_same : (locks : Locks) (who : SessNo) (table : TableNo) → lock_of (without_lock locks who table) who table ≡ None
+lock_of-without_lock_same [] who table = refl
+lock_of-without_lock_same (lock ∷ locks) who table =
+    elim (cases_Bool (is_lock who table lock)) [
+      | inl mine ↦
+          ap (λ (b : Bool). lock_of (cond (not b) (lock ∷ without_lock locks who table) (without_lock locks who table)) who table) mine
+          ∙ lock_of-without_lock_same locks who table
+      | inr other ↦
+          ap (λ (b : Bool). lock_of (cond (not b) (lock ∷ without_lock locks who table) (without_lock locks who table)) who table) other
+          ∙ ap (λ (b : Bool). cond b (Some lock.mode) (lock_of (without_lock locks who table) who table)) other
+          ∙ lock_of-without_lock_same locks who table
+    ]
+
+-- all other locks are as before
+pub lock_of-without_lock : (locks : Locks) (who k : SessNo) (table at : TableNo) → (k ≡ who → at ≡ table → ⊥) → lock_of (without_lock locks who table) k at ≡ lock_of locks k at
+lock_of-without_lock [] who k table at ne = refl
+lock_of-without_lock (lock ∷ locks) who k table at ne =
+    elim (cases_Bool (is_lock who table lock)) [
+      | inl mine ↦
+          let isnt = is_lock-other who k table at lock mine (λ e same. ne (sym e) (sym same)) in
+          ap (λ (b : Bool). lock_of (cond (not b) (lock ∷ without_lock locks who table) (without_lock locks who table)) k at) mine
+          ∙ lock_of-without_lock locks who k table at ne
+          ∙ sym (ap (λ (b : Bool). cond b (Some lock.mode) (lock_of locks k at)) isnt)
+      | inr other ↦
+          ap (λ (b : Bool). lock_of (cond (not b) (lock ∷ without_lock locks who table) (without_lock locks who table)) k at) other
+          ∙ ap (cond (is_lock k at lock) (Some lock.mode)) (lock_of-without_lock locks who k table at ne)
+    ]
+
 -- a session that was given a lock holds the stronger of its modes
 pub Holds-after_taking : (locks : Locks) (who : SessNo) (table : TableNo) (mode : Mode) → Holds (after_taking locks who table mode) who table (stronger (lock_of locks who table) mode)
 Holds-after_taking locks who table mode = by_mode (lock_of locks who table) mode refl
@@ -148,6 +177,17 @@ once-without_locks (lock ∷ locks) who h =
           let isnt : lock.who ≢ who = λ e. apart_by (lock.who.0 == who.0) (eq-eqb lock.who.0 who.0 (ap (λ (s : SessNo). s.0) e)) other in
           subst (λ (b : Bool). IsOnce (cond (not b) (lock ∷ without_locks locks who) (without_locks locks who))) (sym other)
           (lock_of-without_locks locks who lock.who lock.table isnt ∙ h.0, once-without_locks locks who h.1)
+    ]
+
+once-without_lock : (locks : Locks) (who : SessNo) (table : TableNo) → IsOnce locks → IsOnce (without_lock locks who table)
+once-without_lock [] who table h = tt
+once-without_lock (lock ∷ locks) who table h =
+    elim (cases_Bool (is_lock who table lock)) [
+      | inl mine ↦ subst (λ (b : Bool). IsOnce (cond (not b) (lock ∷ without_lock locks who table) (without_lock locks who table))) (sym mine) (once-without_lock locks who table h.1)
+      | inr other ↦
+          let isnt : lock.who ≡ who → lock.table ≡ table → ⊥ = λ e same. apart_by (is_lock who table lock) (is_lock-same who table lock e same) other in
+          subst (λ (b : Bool). IsOnce (cond (not b) (lock ∷ without_lock locks who table) (without_lock locks who table))) (sym other)
+          (lock_of-without_lock locks who lock.who table lock.table isnt ∙ h.0, once-without_lock locks who table h.1)
     ]
 
 x_conflicts : (held : Mode) → conflicts X held ≡ true
@@ -225,6 +265,22 @@ IsLockBook-without_locks locks who book =
     before k at held h = elim (cases_session k who) [
       | inl is ↦ absurd (none-some held (sym (lock_of-without_locks_same locks who at) ∙ sym (ap (λ (s : SessNo). lock_of (without_locks locks who) s at) is) ∙ h))
       | inr ne ↦ sym (lock_of-without_locks locks who k at ne) ∙ h
+    ]
+
+pub IsLockBook-without_lock : (locks : Locks) (who : SessNo) (table : TableNo) → IsLockBook locks → IsLockBook (without_lock locks who table)
+IsLockBook-without_lock locks who table book =
+    record {
+      once = once-without_lock locks who table book.once;
+      alone = λ j k at held a b. book.alone j k at held (before j at X a) (before k at held b);
+    }
+  where
+    before : (k : SessNo) (at : TableNo) (held : Mode) → Holds (without_lock locks who table) k at held → Holds locks k at held
+    before k at held h = elim (cases_session k who) [
+      | inl is ↦ elim (cases_table at table) [
+        | inl same ↦ absurd (none-some held (sym (lock_of-without_lock_same locks who table) ∙ sym (λ i. lock_of (without_lock locks who table) (is i) (same i)) ∙ h))
+        | inr other ↦ sym (lock_of-without_lock locks who k table at (λ e f. other f)) ∙ h
+      ]
+      | inr ne ↦ sym (lock_of-without_lock locks who k table at (λ e f. ne e)) ∙ h
     ]
 
 -- there is one lowest session in the way

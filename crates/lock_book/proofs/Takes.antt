@@ -41,6 +41,11 @@ pub others_left : (locks new : Locks) (who : SessNo) (table : TableNo) (mode : M
 others_left locks new who table mode (Ok gained) given kept k at ne = ap (λ (v : Locks). lock_of v k at) given ∙ lock_of-after_taking locks who k table at mode (λ e same. ne (sym e))
 others_left locks new who table mode (Err refusal) given kept k at ne = ap (λ (v : Locks). lock_of v k at) kept
 
+-- all other locks are as before, the session's own too
+pub rest_left : (locks new : Locks) (who : SessNo) (table : TableNo) (mode : Mode) (result : Result Bool LockRefusal) → OnOk result (new ≡ after_taking locks who table mode) → OnErr result (new ≡ locks) → (k : SessNo) (at : TableNo) → (k ≡ who → at ≡ table → ⊥) → lock_of new k at ≡ lock_of locks k at
+rest_left locks new who table mode (Ok gained) given kept k at ne = ap (λ (v : Locks). lock_of v k at) given ∙ lock_of-after_taking locks who k table at mode (λ e same. ne (sym e) (sym same))
+rest_left locks new who table mode (Err refusal) given kept k at ne = ap (λ (v : Locks). lock_of v k at) kept
+
 -- what the session holds once it was given the lock
 pub holds_on_ok : (locks new : Locks) (who : SessNo) (table : TableNo) (mode : Mode) (result : Result Bool LockRefusal) → OnOk result (new ≡ after_taking locks who table mode) → OnOk result (Holds new who table (stronger (lock_of locks who table) mode))
 holds_on_ok locks new who table mode (Ok gained) given = ap (λ (v : Locks). lock_of v who table) given ∙ Holds-after_taking locks who table mode

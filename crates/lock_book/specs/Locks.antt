@@ -32,6 +32,10 @@ with_lock (lock ∷ locks) who table mode = if is_lock who table lock then recor
 abbrev pub without_locks : Locks → SessNo → Locks
 without_locks locks who = filter (λ (lock : Lock). not (lock.who.0 == who.0)) locks
 
+-- the session doesn't hold this table, all else as before
+abbrev pub without_lock : Locks → SessNo → TableNo → Locks
+without_lock locks who table = filter (λ (lock : Lock). not (is_lock who table lock)) locks
+
 -- a session has one lock at most on a table
 abbrev pub IsOnce : Locks → Type 0
 IsOnce [] = Unit {0}

@@ -4,9 +4,10 @@ ghost use Rattle.std.specs.Prelude.{◌≡◌, ◌≢◌, ℕ, ◌<◌, [], true
 ghost use Rattle.std.specs.List.{reduce};
 ghost use Rattle.page_base.specs.declared.numbers.SessNo.{SessNo};
 ghost use Rattle.page_base.specs.declared.numbers.TableNo.{TableNo};
+ghost use Rattle.page_base.specs.declared.numbers.Mode.{Mode};
 ghost use Rattle.lock_book.specs.declared.lock.Lock.{Lock};
 ghost use Rattle.lock_book.specs.Modes.{gains};
-ghost use Rattle.lock_book.specs.Locks.{IsLockBook, Holds, is_lock, lock_of, without_locks};
+ghost use Rattle.lock_book.specs.Locks.{IsLockBook, Holds, is_lock, lock_of, without_locks, without_lock};
 ghost use Rattle.lock_book.specs.Taking.{after_taking, stronger, IsFree, Refuses};
 ghost use Rattle.lock_book.specs.Inside.{blocks, blockers, HasNone, IsFirst};
 
@@ -81,6 +82,13 @@ fn cut_session(locks: &mut Vec<Lock>, who: SessNo)
     locks.retain(|lock| lock.who != who);
 }
 
+// Drops the session's lock on the table from the list.
+fn cut_lock(locks: &mut Vec<Lock>, who: SessNo, table: TableNo)
+    ensures { locks.new.items ≡ without_lock locks.old.items who table }
+{
+    locks.retain(|lock| !is_lock(lock, who, table));
+}
+
 // Gives a session a lock that nobody is in the way of; true where the mode is newly gained.
 fn give(locks: &mut Vec<Lock>, who: SessNo, table: TableNo, mode: Mode) -> Result<bool, LockRefusal>
     ensures gained { IfOk result (λ gained. gained ≡ gains (lock_of locks.old.items who table) mode) }
@@ -123,6 +131,7 @@ impl LockBook {
         ensures refused { IfErr result (Refuses self.old who table mode) }
         ensures same { OnErr result (self.new ≡ self.old) }
         ensures others { (k : SessNo) (at : TableNo) → k ≢ who → lock_of self.new k at ≡ lock_of self.old k at }
+        ensures rest { (k : SessNo) (at : TableNo) → (k ≡ who → at ≡ table → ⊥) → lock_of self.new k at ≡ lock_of self.old k at }
         ensures book { IsLockBook self.new }
     {
         match lowest_blocker(&self.locks, who, table, mode) {
@@ -138,9 +147,21 @@ impl LockBook {
         mode_of(&self.locks, who, table)
     }
 
+    /// Frees the lock that a session holds on a table.
+    pub fn free(&mut self, who: SessNo, table: TableNo)
+        requires { (mode : Mode) × Holds self.old who table mode }
+        ensures freed { self.new ≡ without_lock self.old who table }
+        ensures gone { lock_of self.new who table ≡ None }
+        ensures rest { (k : SessNo) (at : TableNo) → (k ≡ who → at ≡ table → ⊥) → lock_of self.new k at ≡ lock_of self.old k at }
+        ensures book { IsLockBook self.new }
+    {
+        cut_lock(&mut self.locks, who, table);
+    }
+
     /// Frees all locks of a session.
     pub fn free_all(&mut self, who: SessNo)
         ensures freed { self.new ≡ without_locks self.old who }
+        ensures gone { (at : TableNo) → lock_of self.new who at ≡ None }
         ensures others { (k : SessNo) (at : TableNo) → k ≢ who → lock_of self.new k at ≡ lock_of self.old k at }
         ensures book { IsLockBook self.new }
     {

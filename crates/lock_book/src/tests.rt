@@ -8,6 +8,15 @@ fn held(by: u8) -> LockRefusal {
     LockRefusal::Held { by: SessNo(by) }
 }
 
+// Whether the session held the table, which it doesn't now.
+fn is_freed(book: &mut LockBook, who: SessNo, table: TableNo) -> bool {
+    if book.holds(who, table).is_none() {
+        return false;
+    }
+    book.free(who, table);
+    book.holds(who, table).is_none()
+}
+
 #[test]
 fn locks_are_taken_and_refused(rt: HostRuntime) -> Result<(), Fail> {
     let mut book = LockBook::new(rt.alloc())?;
@@ -28,6 +37,8 @@ fn locks_are_taken_and_refused(rt: HostRuntime) -> Result<(), Fail> {
             "{who} {table}"
         );
     }
+    assert!(rt; is_freed(&mut book, SessNo(3), TableNo(7)));
+    assert_eq!(rt; book.take(SessNo(2), TableNo(7), Mode::X), Err(held(5)));
     book.free_all(SessNo(2));
     assert_eq!(rt; book.holds(SessNo(2), TableNo(0)), None);
     assert_eq!(rt; book.holds(SessNo(1), TableNo(0)), Some(Mode::S));

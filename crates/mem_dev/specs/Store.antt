@@ -44,11 +44,17 @@ abbrev pub is_over : Option ℕ → Stored → ℕ → Bool
 is_over None pages n = false
 is_over (Some limit) pages n = not (is_some (slice_index_or pages n None)) && nat_le limit (written pages)
 
--- a page file: its pages, how many it may have, and the calls that fail
+-- a page file: its pages, how many it may have, the calls that fail, and how many were made
 pub record PagesState : Type 0 where
   pub pages : Stored
   pub limit : Option ℕ
   pub plan : Plan
+  pub calls : ℕ
+
+-- a page file that never fails: its pages, and how many calls were made
+pub record SureState : Type 0 where
+  pub pages : FilePages
+  pub calls : ℕ
 
 -- a log: its bytes, the limit of its name, which it keeps, and the calls that fail
 pub record LogState : Type 0 where

@@ -1,12 +1,11 @@
-//! Volumes, page files and logs in memory: what each call gives with ample memory, and which calls fail.
+//! Volumes and their files in memory: each call once with ample memory, which calls fail, names that are taken, and lengths.
 
-ghost use Rattle.std.specs.Prelude.{◌≡◌, ◌≢◌, ◌<◌, Err, OnOk, false, length};
+ghost use Rattle.std.specs.Prelude.{◌≡◌, OnOk};
 ghost use Rattle.std.specs.FinSet as set;
-ghost use Rattle.page_dev.specs.Faults.{HasCause, HasCauseOf};
 ghost use Rattle.mem_dev.specs.Out.{out_of};
 
-use crate::{MemPages, MemVolume, SureLog, SurePages, SureVolume};
-use page_base::{Failed, FileName, Image, NoMemory};
+use crate::{MemLog, MemPages, MemVolume, SureVolume};
+use page_base::{FileName, Image, NoMemory};
 use page_dev::{LogFile, LogRefusal, PageFile, VolRefusal, Volume};
 use std::alloc::Global;
 use std::process::Abort;
@@ -29,33 +28,38 @@ enum Call {
     Write(u32, u8),
 }
 
-// Makes the calls, of which those marked fail.
+// Whether the page is there, is read, and has the byte throughout.
+fn reads(file: &mut MemPages, n: u32, byte: u8, image: &mut Image) -> bool {
+    n < file.pages() && file.read_page(n, image).is_ok() && image.bytes()[8191] == byte
+}
+
+// Whether the page is there, and is written.
+fn writes(file: &mut MemPages, n: u32, from: &Image) -> bool {
+    n < file.pages() && file.write_page(n, from).is_ok()
+}
+
+// Whether the call succeeds, and finds what it is to find.
+fn succeeds(alloc: Global, file: &mut MemPages, call: Call) -> Result<bool, NoMemory> {
+    match call {
+        Call::Read(n, byte) => Ok(reads(file, n, byte, &mut image_of(alloc, 255)?)),
+        Call::Write(n, byte) => Ok(writes(file, n, &image_of(alloc, byte)?)),
+    }
+}
+
+// Makes the calls, of which those marked succeed.
 fn play(
     rt: &impl Abort,
     alloc: Global,
     file: &mut MemPages,
     calls: &[(Call, bool)],
 ) -> Result<(), Fail> {
-    for (call, fails) in calls {
-        let mut image = image_of(alloc, 255)?;
-        let failed = match *call {
-            Call::Read(n, byte) => {
-                assert!(rt; n < file.pages());
-                let read = file.read_page(n, &mut image).is_err();
-                assert_eq!(rt; image.bytes()[8191], if read { 255 } else { byte });
-                read
-            }
-            Call::Write(n, byte) => {
-                assert!(rt; n < file.pages());
-                file.write_page(n, &image_of(alloc, byte)?).is_err()
-            }
-        };
-        assert_eq!(rt; failed, *fails, "{call:?}");
+    for (call, done) in calls {
+        assert_eq!(rt; succeeds(alloc, file, *call)?, *done, "{call:?}");
     }
     Ok(())
 }
 
-// Takes a file of so many pages, which is made where there is none, and puts it back after these calls.
+// Takes a file of so many pages, and puts it back after these calls.
 #[tactic(auto, using(page_dev::proofs::OutLemmas::taken_out, page_dev::proofs::OutLemmas::put_back, crate::proofs::CallerLemmas::none_is_out))]
 fn visit(
     rt: &impl Abort,
@@ -69,368 +73,367 @@ fn visit(
     ensures { OnOk result (out_of volume.new.folder ≡ set.empty) }
 {
     let mut file = volume.take_pages(name, pages)?;
-    assert_eq!(rt; file.faults(), 0);
     play(rt, alloc, &mut file, calls)?;
     volume.put_pages(name, file)?;
     Ok(())
 }
 
-// Makes a file of so many pages at a name that is free.
+// What is asked of a volume about the file of one name.
+#[derive(Clone, Copy, Debug)]
+enum Ask {
+    Has,
+    Make(u32),
+    Take(u32),
+    MakeLog,
+    TakeLog,
+    Remove,
+}
+
+// Makes a file of so many pages, and puts it back.
 #[tactic(auto, using(page_dev::proofs::OutLemmas::taken_out, page_dev::proofs::OutLemmas::put_back, crate::proofs::CallerLemmas::none_is_out))]
-fn make(volume: &mut MemVolume, name: &FileName, pages: u32) -> Result<(), Fail>
+fn make(volume: &mut MemVolume, name: &FileName, pages: u32) -> Result<bool, VolRefusal>
     requires { out_of volume.old.folder ≡ set.empty }
-    ensures { OnOk result (out_of volume.new.folder ≡ set.empty) }
+    ensures { out_of volume.new.folder ≡ set.empty }
 {
     let file = volume.create_pages(name, pages)?;
-    volume.put_pages(name, file)?;
-    Ok(())
-}
-
-const OF_ANOTHER_FILE: [(Call, bool); 2] = [(Call::Write(0, 9), false), (Call::Read(0, 9), false)];
-
-const OF_THE_FIRST_FILE: [(Call, bool); 3] = [
-    (Call::Write(0, 7), false),
-    (Call::Write(1, 8), true),
-    (Call::Read(1, 0), false),
-];
-
-const OF_THE_SECOND_FILE: [(Call, bool); 6] = [
-    (Call::Read(0, 0), true),
-    (Call::Write(0, 3), true),
-    (Call::Write(0, 4), false),
-    (Call::Read(0, 4), false),
-    (Call::Write(0, 5), true),
-    (Call::Read(0, 4), false),
-];
-
-// Each planned failure counts the reads and writes of all files of its name from its own planning on.
-#[tactic(auto, using(crate::proofs::CallerLemmas::none_is_out))]
-#[test]
-fn planned_calls_of_a_file_fail(rt: HostRuntime) -> Result<(), Fail> {
-    let alloc = rt.alloc();
-    let a = named(b"a.ss")?;
-    let b = named(b"b.ss")?;
-    let mut volume = MemVolume::new(alloc)?;
-    make(&mut volume, &a, 2)?;
-    make(&mut volume, &b, 1)?;
-    volume.fail(&a, 2)?;
-    volume.fail(&a, 4)?;
-    visit(&rt, alloc, &mut volume, &b, 1, &OF_ANOTHER_FILE)?;
-    visit(&rt, alloc, &mut volume, &a, 2, &OF_THE_FIRST_FILE)?;
-    assert_eq!(rt; volume.file_faults(), 1);
-    // one more call is left until the second failure; a third is planned from here on, and a fourth behind it
-    volume.fail(&a, 2)?;
-    volume.fail(&a, 5)?;
-    volume.remove(&a)?;
-    make(&mut volume, &a, 1)?;
-    visit(&rt, alloc, &mut volume, &a, 1, &OF_THE_SECOND_FILE)?;
-    assert_eq!(rt; (volume.file_faults(), volume.faults()), (4, 0));
-    Ok(())
-}
-
-// A file may have so many written pages; a page that was written may be written again.
-#[tactic(auto, using(crate::proofs::CallerLemmas::none_is_out))]
-#[test]
-fn pages_are_limited(rt: HostRuntime) -> Result<(), Fail> {
-    let alloc = rt.alloc();
-    let a = named(b"a.ss")?;
-    let mut volume = MemVolume::new(alloc)?;
-    make(&mut volume, &a, 4)?;
-    volume.page_limit(&a, 2)?;
-    visit(
-        &rt,
-        alloc,
-        &mut volume,
-        &a,
-        4,
-        &[
-            (Call::Write(3, 1), false),
-            (Call::Write(1, 2), false),
-            (Call::Write(0, 3), true),
-            (Call::Write(3, 4), false),
-            (Call::Read(0, 0), false),
-            (Call::Read(3, 4), false),
-        ],
-    )?;
-    volume.page_limit(&a, 3)?;
-    visit(
-        &rt,
-        alloc,
-        &mut volume,
-        &a,
-        4,
-        &[
-            (Call::Write(0, 5), false),
-            (Call::Write(2, 6), true),
-            (Call::Read(1, 2), false),
-        ],
-    )?;
-    assert_eq!(rt; volume.file_faults(), 2);
-    Ok(())
-}
-
-// Why a file isn't given as so many pages.
-fn refused_take(volume: &mut MemVolume, name: &FileName, pages: u32) -> Result<VolRefusal, Fail>
-    requires { set.contains (out_of volume.old.folder) name.now ≡ false }
-    ensures { OnOk result (volume.new.folder ≡ volume.old.folder) }
-{
-    match volume.take_pages(name, pages) {
-        Ok(_) => Err("the pages were given".into()),
-        Err(why) => Ok(why),
+    match volume.put_pages(name, file) {
+        Ok(()) => Ok(true),
+        Err(_) => Err(VolRefusal::Failed),
     }
 }
 
-// Why a log isn't given.
-fn refused_log(volume: &mut MemVolume, name: &FileName) -> Result<VolRefusal, Fail>
-    requires { set.contains (out_of volume.old.folder) name.now ≡ false }
-    ensures { OnOk result (volume.new.folder ≡ volume.old.folder) }
-{
-    match volume.take_log(name) {
-        Ok(_) => Err("the log was given".into()),
-        Err(why) => Ok(why),
-    }
-}
-
-// Why a file isn't made, as pages and as a log.
-fn refused_create(volume: &mut MemVolume, name: &FileName) -> Result<(VolRefusal, VolRefusal), Fail>
-    ensures { OnOk result (volume.new.folder ≡ volume.old.folder) }
-{
-    let Err(pages) = volume.create_pages(name, 1) else {
-        return Err("pages were made".into());
-    };
-    let Err(log) = volume.create_log(name) else {
-        return Err("a log was made".into());
-    };
-    Ok((pages, log))
-}
-
-// A name is free at first, and freeing it once more changes nothing.
-#[tactic(auto, using(crate::proofs::CallerLemmas::none_is_out))]
-fn free_name(rt: &impl Abort, volume: &mut MemVolume, name: &FileName) -> Result<(), Fail>
-    requires { out_of volume.old.folder ≡ set.empty }
-    ensures { OnOk result (out_of volume.new.folder ≡ set.empty) }
-{
-    assert_eq!(rt; volume.has(name), Ok(false));
-    assert_eq!(rt; refused_take(volume, name, 1)?, VolRefusal::Absent);
-    assert_eq!(rt; refused_log(volume, name)?, VolRefusal::Absent);
-    volume.remove(name)?;
-    Ok(())
-}
-
-// A file keeps its name's place while it is out, and behind that.
+// Takes a file of so many pages, and puts it back.
 #[tactic(auto, using(page_dev::proofs::OutLemmas::taken_out, page_dev::proofs::OutLemmas::put_back, crate::proofs::CallerLemmas::none_is_out))]
-fn held_name(rt: &impl Abort, volume: &mut MemVolume, name: &FileName) -> Result<(), Fail>
+fn take(volume: &mut MemVolume, name: &FileName, pages: u32) -> Result<bool, VolRefusal>
     requires { out_of volume.old.folder ≡ set.empty }
-    ensures { OnOk result (out_of volume.new.folder ≡ set.empty) }
+    ensures { out_of volume.new.folder ≡ set.empty }
 {
-    let there = (VolRefusal::Exists, VolRefusal::Exists);
-    let file = volume.create_pages(name, 2)?;
-    assert_eq!(rt; volume.has(name), Ok(true));
-    assert_eq!(rt; refused_create(volume, name)?, there);
-    volume.put_pages(name, file)?;
-    assert_eq!(rt; refused_create(volume, name)?, there);
-    Ok(())
+    let file = volume.take_pages(name, pages)?;
+    match volume.put_pages(name, file) {
+        Ok(()) => Ok(true),
+        Err(_) => Err(VolRefusal::Failed),
+    }
 }
 
-// A name's place is held until the name is removed.
+// Makes a log, and puts it back.
+#[tactic(auto, using(page_dev::proofs::OutLemmas::taken_out, page_dev::proofs::OutLemmas::put_back, crate::proofs::CallerLemmas::none_is_out))]
+fn make_log(volume: &mut MemVolume, name: &FileName) -> Result<bool, VolRefusal>
+    requires { out_of volume.old.folder ≡ set.empty }
+    ensures { out_of volume.new.folder ≡ set.empty }
+{
+    let log = volume.create_log(name)?;
+    match volume.put_log(name, log) {
+        Ok(()) => Ok(true),
+        Err(_) => Err(VolRefusal::Failed),
+    }
+}
+
+// Takes a log, and puts it back.
+#[tactic(auto, using(page_dev::proofs::OutLemmas::taken_out, page_dev::proofs::OutLemmas::put_back, crate::proofs::CallerLemmas::none_is_out))]
+fn take_log(volume: &mut MemVolume, name: &FileName) -> Result<bool, VolRefusal>
+    requires { out_of volume.old.folder ≡ set.empty }
+    ensures { out_of volume.new.folder ≡ set.empty }
+{
+    let log = volume.take_log(name)?;
+    match volume.put_log(name, log) {
+        Ok(()) => Ok(true),
+        Err(_) => Err(VolRefusal::Failed),
+    }
+}
+
+fn has(volume: &mut MemVolume, name: &FileName) -> Result<bool, VolRefusal>
+    ensures { out_of volume.new.folder ≡ out_of volume.old.folder }
+{
+    match volume.has(name) {
+        Ok(there) => Ok(there),
+        Err(_) => Err(VolRefusal::Failed),
+    }
+}
+
 #[tactic(auto, using(crate::proofs::CallerLemmas::none_is_out))]
-#[test]
-fn names_have_places(rt: HostRuntime) -> Result<(), Fail> {
-    let a = named(b"a.ss")?;
-    let mut volume = MemVolume::new(rt.alloc())?;
-    free_name(&rt, &mut volume, &a)?;
-    held_name(&rt, &mut volume, &a)?;
-    let found = refused_take(&mut volume, &a, 3)?;
-    assert_eq!(rt; found, VolRefusal::Length { found: 16_384 });
-    volume.remove(&a)?;
-    free_name(&rt, &mut volume, &a)?;
-    make(&mut volume, &a, 1)
+fn removed(volume: &mut MemVolume, name: &FileName) -> Result<bool, VolRefusal>
+    requires { out_of volume.old.folder ≡ set.empty }
+    ensures { out_of volume.new.folder ≡ set.empty }
+{
+    match volume.remove(name) {
+        Ok(()) => Ok(true),
+        Err(_) => Err(VolRefusal::Failed),
+    }
 }
 
-// Cuts a file of two pages behind the first byte of the second, and lets it grow again.
-#[tactic(auto, using(page_dev::proofs::OutLemmas::taken_out, page_dev::proofs::OutLemmas::put_back, crate::proofs::CallerLemmas::none_is_out, crate::proofs::CallerLemmas::lies_where_put))]
-fn cut_and_grow(rt: &impl Abort, volume: &mut MemVolume, name: &FileName) -> Result<(), Fail>
+fn answer(volume: &mut MemVolume, name: &FileName, ask: Ask) -> Result<bool, VolRefusal>
+    requires { out_of volume.old.folder ≡ set.empty }
+    ensures { out_of volume.new.folder ≡ set.empty }
+{
+    match ask {
+        Ask::Has => has(volume, name),
+        Ask::Make(pages) => make(volume, name, pages),
+        Ask::Take(pages) => take(volume, name, pages),
+        Ask::MakeLog => make_log(volume, name),
+        Ask::TakeLog => take_log(volume, name),
+        Ask::Remove => removed(volume, name),
+    }
+}
+
+// Asks in turn, with these answers.
+fn ask_all(
+    rt: &impl Abort,
+    volume: &mut MemVolume,
+    name: &FileName,
+    asks: &[(Ask, Result<bool, VolRefusal>)],
+) -> Result<(), Fail>
     requires { out_of volume.old.folder ≡ set.empty }
     ensures { OnOk result (out_of volume.new.folder ≡ set.empty) }
 {
-    let file = volume.take_pages(name, 2)?;
-    volume.put_pages(name, file)?;
-    volume.set_length(name, 8_193)?;
-    let odd = VolRefusal::Length { found: 8_193 };
-    assert_eq!(rt; refused_take(volume, name, 1)?, odd);
-    assert_eq!(rt; refused_take(volume, name, 2)?, odd);
-    volume.set_length(name, 24_576)?;
+    for (ask, wanted) in asks {
+        assert_eq!(rt; answer(volume, name, *ask), *wanted, "{ask:?}");
+    }
     Ok(())
 }
+
+// A name is held until it is removed; the calls 3, 6 and 20 fail, and a file that is put back by such a call is back.
+const ASKS: [(Ask, Result<bool, VolRefusal>); 15] = [
+    (Ask::Has, Ok(false)),
+    (Ask::Take(1), Err(VolRefusal::Absent)),
+    (Ask::Make(2), Err(VolRefusal::Failed)),
+    (Ask::Make(2), Ok(true)),
+    (Ask::Has, Err(VolRefusal::Failed)),
+    (Ask::Has, Ok(true)),
+    (Ask::Make(1), Err(VolRefusal::Exists)),
+    (Ask::MakeLog, Err(VolRefusal::Exists)),
+    (Ask::Take(1), Err(VolRefusal::Length { found: 16_384 })),
+    (Ask::Take(2), Ok(true)),
+    (Ask::TakeLog, Ok(true)),
+    (Ask::Remove, Ok(true)),
+    (Ask::TakeLog, Err(VolRefusal::Absent)),
+    (Ask::MakeLog, Ok(true)),
+    (Ask::TakeLog, Err(VolRefusal::Failed)),
+];
+
+#[test]
+fn a_volume_answers_by_its_plan(rt: HostRuntime) -> Result<(), Fail> {
+    let name = named(b"a.ss")?;
+    let mut volume = MemVolume::new(rt.alloc())?;
+    volume.fail_volume(3)?;
+    volume.fail_volume(6)?;
+    volume.fail_volume(20)?;
+    ask_all(&rt, &mut volume, &name, &ASKS)?;
+    ask_all(&rt, &mut volume, &name, &[(Ask::Has, Ok(true))])?;
+    assert_eq!(rt; (volume.file_faults(), volume.faults()), (0, 3));
+    Ok(())
+}
+
+// A name that is out is there, and isn't free.
+#[test]
+fn a_name_that_is_out_is_held(rt: HostRuntime) -> Result<(), Fail> {
+    let name = named(b"a.ss")?;
+    let mut volume = MemVolume::new(rt.alloc())?;
+    let _file = volume.create_pages(&name, 2)?;
+    assert_eq!(rt; volume.has(&name), Ok(true));
+    assert_eq!(rt; volume.create_log(&name).is_err(), true);
+    Ok(())
+}
+
+// The calls 2 and 4 of the files of the name fail, over all files of this name, and a second written page is one too many.
+#[tactic(auto, using(crate::proofs::CallerLemmas::none_is_out))]
+fn planned(volume: &mut MemVolume, name: &FileName) -> Result<(), NoMemory>
+    requires { out_of volume.old.folder ≡ set.empty }
+    ensures { out_of volume.new.folder ≡ set.empty }
+{
+    volume.fail(name, 2)?;
+    volume.fail(name, 4)?;
+    volume.page_limit(name, 1)
+}
+
+const FIRST: [(Call, bool); 3] = [
+    (Call::Write(0, 7), true),
+    (Call::Write(0, 8), false),
+    (Call::Read(0, 7), true),
+];
+
+const LATER: [(Call, bool); 5] = [
+    (Call::Read(0, 7), false),
+    (Call::Read(1, 0), true),
+    (Call::Write(1, 9), false),
+    (Call::Write(0, 6), true),
+    (Call::Read(0, 6), true),
+];
+
+#[test]
+fn files_answer_by_the_plan_of_their_name(rt: HostRuntime) -> Result<(), Fail> {
+    let alloc = rt.alloc();
+    let name = named(b"a.ss")?;
+    let mut volume = MemVolume::new(alloc)?;
+    planned(&mut volume, &name)?;
+    make(&mut volume, &name, 2)?;
+    visit(&rt, alloc, &mut volume, &name, 2, &FIRST)?;
+    visit(&rt, alloc, &mut volume, &name, 2, &LATER)?;
+    assert_eq!(rt; (volume.file_faults(), volume.faults()), (3, 0));
+    Ok(())
+}
+
+// Cuts a file that lies there, or lets it grow.
+#[tactic(auto, using(page_dev::proofs::OutLemmas::taken_out, page_dev::proofs::OutLemmas::put_back, crate::proofs::CallerLemmas::none_is_out, crate::proofs::CallerLemmas::lies_where_put))]
+fn set_length(volume: &mut MemVolume, name: &FileName, bytes: u64) -> Result<(), Fail>
+    requires { out_of volume.old.folder ≡ set.empty }
+    ensures { OnOk result (out_of volume.new.folder ≡ set.empty) }
+{
+    let log = volume.take_log(name)?;
+    volume.put_log(name, log)?;
+    volume.set_length(name, bytes)?;
+    Ok(())
+}
+
+const BEFORE: [(Call, bool); 2] = [(Call::Write(0, 7), true), (Call::Write(1, 8), true)];
+
+const ODD: [(Ask, Result<bool, VolRefusal>); 1] = [(
+    Ask::Take(2),
+    Err(VolRefusal::Length { found: 8_193 }),
+)];
+
+const AFTER: [(Call, bool); 3] = [
+    (Call::Read(0, 7), true),
+    (Call::Read(1, 0), true),
+    (Call::Read(2, 0), true),
+];
 
 // A file that was cut keeps its first bytes, and one that grew has zeros behind them.
-#[tactic(auto, using(page_dev::proofs::OutLemmas::taken_out, page_dev::proofs::OutLemmas::put_back, crate::proofs::CallerLemmas::none_is_out))]
 #[test]
 fn lengths_are_set(rt: HostRuntime) -> Result<(), Fail> {
     let alloc = rt.alloc();
-    let a = named(b"a.ss")?;
+    let name = named(b"a.ss")?;
     let mut volume = MemVolume::new(alloc)?;
-    make(&mut volume, &a, 2)?;
-    visit(
-        &rt,
-        alloc,
-        &mut volume,
-        &a,
-        2,
-        &[(Call::Write(0, 7), false), (Call::Write(1, 8), false)],
-    )?;
-    cut_and_grow(&rt, &mut volume, &a)?;
-    visit(
-        &rt,
-        alloc,
-        &mut volume,
-        &a,
-        3,
-        &[
-            (Call::Read(0, 7), false),
-            (Call::Read(1, 0), false),
-            (Call::Read(2, 0), false),
-        ],
-    )?;
-    let mut log = volume.take_log(&a)?;
-    let mut piece = [1u8; 3];
-    assert_eq!(rt; log.read_at(8_191, &mut piece), Ok(3));
-    assert_eq!(rt; piece, [7, 8, 0]);
-    volume.put_log(&a, log)?;
+    make(&mut volume, &name, 2)?;
+    visit(&rt, alloc, &mut volume, &name, 2, &BEFORE)?;
+    set_length(&mut volume, &name, 8_193)?;
+    ask_all(&rt, &mut volume, &name, &ODD)?;
+    set_length(&mut volume, &name, 24_576)?;
+    visit(&rt, alloc, &mut volume, &name, 3, &AFTER)
+}
+
+// A read of four bytes from a place, or three equal bytes put in place of all.
+#[derive(Clone, Copy, Debug)]
+enum LogCall {
+    Read(u64),
+    Put(u8),
+}
+
+fn log_read(log: &mut MemLog, at: u64) -> Result<(usize, u8), LogRefusal> {
+    let mut piece = [0u8; 4];
+    match log.read_at(at, &mut piece) {
+        Ok(count) => Ok((count, piece[0])),
+        Err(_) => Err(LogRefusal::Failed),
+    }
+}
+
+// How many bytes the call read or put there, and the first of these.
+fn log_answer(log: &mut MemLog, call: LogCall) -> Result<(usize, u8), LogRefusal> {
+    match call {
+        LogCall::Read(at) => log_read(log, at),
+        LogCall::Put(byte) => {
+            log.append_at(0, &[byte; 3])?;
+            Ok((3, byte))
+        }
+    }
+}
+
+fn play_log(
+    rt: &impl Abort,
+    log: &mut MemLog,
+    calls: &[(LogCall, Result<(usize, u8), LogRefusal>)],
+) -> Result<(), Fail> {
+    for (call, wanted) in calls {
+        assert_eq!(rt; log_answer(log, *call), *wanted, "{call:?}");
+    }
     Ok(())
 }
 
-// A log is cut at the end that is given, reads stop at its end, and planned reads and writes of it fail.
-#[tactic(auto, using(page_dev::proofs::OutLemmas::taken_out, page_dev::proofs::OutLemmas::put_back, crate::proofs::CallerLemmas::none_is_out))]
+// The calls 3 and 5 fail.
+const LOG_CALLS: [(LogCall, Result<(usize, u8), LogRefusal>); 6] = [
+    (LogCall::Put(7), Ok((3, 7))),
+    (LogCall::Put(8), Ok((3, 8))),
+    (LogCall::Put(9), Err(LogRefusal::Failed)),
+    (LogCall::Read(1), Ok((2, 8))),
+    (LogCall::Read(0), Err(LogRefusal::Failed)),
+    (LogCall::Read(u64::MAX), Ok((0, 0))),
+];
+
+#[tactic(auto, using(crate::proofs::CallerLemmas::none_is_out))]
+fn planned_log(volume: &mut MemVolume, name: &FileName) -> Result<MemLog, Fail>
+    requires { out_of volume.old.folder ≡ set.empty }
+{
+    volume.fail(name, 3)?;
+    volume.fail(name, 5)?;
+    Ok(volume.create_log(name)?)
+}
+
 #[test]
-fn logs_are_cut_and_read(rt: HostRuntime) -> Result<(), Fail> {
-    let a = named(b"a.log")?;
+fn a_log_answers_by_its_plan(rt: HostRuntime) -> Result<(), Fail> {
     let mut volume = MemVolume::new(rt.alloc())?;
-    volume.fail(&a, 3)?;
-    volume.fail(&a, 5)?;
-    let mut log = volume.create_log(&a)?;
-    let mut piece = [9u8; 4];
-    assert_eq!(rt; log.append_at(0, b"abc"), Ok(()));
-    assert_eq!(rt; log.append_at(0, b"defgh"), Ok(()));
-    assert_eq!(rt; log.append_at(0, b"x"), Err(LogRefusal::Failed));
-    assert_eq!(rt; log.read_at(3, &mut piece), Ok(2));
-    assert_eq!(rt; piece, [b'g', b'h', 9, 9]);
-    assert_eq!(rt; log.read_at(0, &mut piece), Err(Failed));
-    assert_eq!(rt; log.read_at(u64::MAX, &mut piece), Ok(0));
+    let mut log = planned_log(&mut volume, &named(b"a.log")?)?;
+    play_log(&rt, &mut log, &LOG_CALLS)?;
     assert_eq!(rt; log.faults(), 2);
-    volume.put_log(&a, log)?;
-    assert_eq!(rt; (volume.file_faults(), volume.faults()), (2, 0));
-    Ok(())
-}
-
-// Puts a file back by a call that is to fail: it is back all the same.
-#[tactic(auto, using(page_dev::proofs::OutLemmas::taken_out, page_dev::proofs::OutLemmas::put_back, crate::proofs::CallerLemmas::none_is_out))]
-fn put_back_in_vain(rt: &impl Abort, volume: &mut MemVolume, name: &FileName) -> Result<(), Fail>
-    requires { out_of volume.old.folder ≡ set.empty }
-    ensures { OnOk result (out_of volume.new.folder ≡ set.empty) }
-{
-    volume.fail_volume(2)?;
-    volume.fail_volume(4)?;
-    let file = volume.take_pages(name, 1)?;
-    assert_eq!(rt; volume.put_pages(name, file), Err(Failed));
-    let log = volume.take_log(name)?;
-    assert_eq!(rt; volume.put_log(name, log), Err(Failed));
-    assert_eq!(rt; volume.has(name), Ok(true));
-    Ok(())
-}
-
-// Each kind of call fails where it was to, and changes no file.
-#[tactic(auto, using(crate::proofs::CallerLemmas::none_is_out))]
-fn each_kind_fails(rt: &impl Abort, volume: &mut MemVolume, name: &FileName) -> Result<(), Fail>
-    requires { out_of volume.old.folder ≡ set.empty }
-    ensures { OnOk result (out_of volume.new.folder ≡ set.empty) }
-{
-    volume.fail_volume(1)?;
-    volume.fail_volume(2)?;
-    volume.fail_volume(3)?;
-    assert_eq!(rt; volume.has(name), Err(Failed));
-    assert_eq!(rt; refused_take(volume, name, 1)?, VolRefusal::Failed);
-    assert_eq!(rt; refused_log(volume, name)?, VolRefusal::Failed);
-    volume.fail_volume(1)?;
-    assert_eq!(rt; volume.remove(name), Err(Failed));
-    Ok(())
-}
-
-// The volume's own calls fail by number; a file of the name stays as it is.
-#[tactic(auto, using(crate::proofs::CallerLemmas::none_is_out))]
-#[test]
-fn planned_calls_of_a_volume_fail(rt: HostRuntime) -> Result<(), Fail> {
-    let alloc = rt.alloc();
-    let a = named(b"a.ss")?;
-    let mut volume = MemVolume::new(alloc)?;
-    volume.fail_volume(1)?;
-    volume.fail_volume(2)?;
-    let failed = (VolRefusal::Failed, VolRefusal::Failed);
-    assert_eq!(rt; refused_create(&mut volume, &a)?, failed);
-    assert_eq!(rt; volume.has(&a), Ok(false));
-    make(&mut volume, &a, 1)?;
-    each_kind_fails(&rt, &mut volume, &a)?;
-    put_back_in_vain(&rt, &mut volume, &a)?;
-    visit(&rt, alloc, &mut volume, &a, 1, &[(Call::Read(0, 0), false)])?;
-    assert_eq!(rt; (volume.file_faults(), volume.faults()), (0, 8));
     Ok(())
 }
 
 // A page file is made, written, read and put back.
 #[tactic(auto, using(page_dev::proofs::OutLemmas::taken_out, page_dev::proofs::OutLemmas::put_back, crate::proofs::CallerLemmas::none_is_out))]
-fn new_pages<V: Volume>(
-    rt: &impl Abort,
-    alloc: Global,
-    volume: &mut V,
-    name: &FileName,
-) -> Result<(), Fail>
+fn new_pages<V: Volume>(volume: &mut V, name: &FileName, image: &mut Image) -> Result<(), Fail>
     requires { V.out volume.old ≡ set.empty }
     ensures { OnOk result (V.out volume.new ≡ set.empty) }
 {
-    let mut image = image_of(alloc, 6)?;
     let mut file = volume.create_pages(name, 2)?;
-    file.write_page(1, &image)?;
-    file.read_page(0, &mut image)?;
-    assert_eq!(rt; (image.bytes()[0], file.pages(), file.faults()), (0, 2, 0));
+    file.write_page(1, image)?;
+    file.read_page(0, image)?;
     volume.put_pages(name, file)?;
     Ok(())
 }
 
-// It is taken and read again, and removed.
+// It is taken and read again, and put back.
 #[tactic(auto, using(page_dev::proofs::OutLemmas::taken_out, page_dev::proofs::OutLemmas::put_back, crate::proofs::CallerLemmas::none_is_out))]
-fn old_pages<V: Volume>(
-    rt: &impl Abort,
-    alloc: Global,
-    volume: &mut V,
-    name: &FileName,
-) -> Result<(), Fail>
+fn old_pages<V: Volume>(volume: &mut V, name: &FileName, image: &mut Image) -> Result<(), Fail>
     requires { V.out volume.old ≡ set.empty }
     ensures { OnOk result (V.out volume.new ≡ set.empty) }
 {
-    let mut image = Image::blank(alloc)?;
     let mut file = volume.take_pages(name, 2)?;
-    file.read_page(1, &mut image)?;
-    assert_eq!(rt; image.bytes()[8191], 6);
+    file.read_page(1, image)?;
     volume.put_pages(name, file)?;
-    assert_eq!(rt; volume.has(name), Ok(true));
-    volume.remove(name)?;
     Ok(())
 }
 
-// A log is made, written, put back, taken and read.
+// A log is made, written, and put back.
 #[tactic(auto, using(page_dev::proofs::OutLemmas::taken_out, page_dev::proofs::OutLemmas::put_back, crate::proofs::CallerLemmas::none_is_out))]
-fn both_logs<V: Volume>(rt: &impl Abort, volume: &mut V, name: &FileName) -> Result<(), Fail>
+fn new_log<V: Volume>(volume: &mut V, name: &FileName) -> Result<(), Fail>
     requires { V.out volume.old ≡ set.empty }
+    ensures { OnOk result (V.out volume.new ≡ set.empty) }
 {
     let mut log = volume.create_log(name)?;
     log.append_at(0, b"abc")?;
     volume.put_log(name, log)?;
+    Ok(())
+}
+
+// It is taken and read, and put back.
+#[tactic(auto, using(page_dev::proofs::OutLemmas::taken_out, page_dev::proofs::OutLemmas::put_back, crate::proofs::CallerLemmas::none_is_out))]
+fn old_log<V: Volume>(volume: &mut V, name: &FileName, piece: &mut [u8]) -> Result<(), Fail>
+    requires { V.out volume.old ≡ set.empty }
+    ensures { OnOk result (V.out volume.new ≡ set.empty) }
+{
     let mut log = volume.take_log(name)?;
-    let mut piece = [0u8; 2];
-    assert_eq!(rt; (log.read_at(1, &mut piece), log.faults()), (Ok(2), 0));
-    assert_eq!(rt; piece, [b'b', b'c']);
+    let _count = log.read_at(1, piece)?;
     volume.put_log(name, log)?;
     Ok(())
+}
+
+// The name is there, and then it is removed.
+#[tactic(auto, using(crate::proofs::CallerLemmas::none_is_out))]
+fn gone<V: Volume>(volume: &mut V, name: &FileName) -> Result<bool, Fail>
+    requires { V.out volume.old ≡ set.empty }
+    ensures { OnOk result (V.out volume.new ≡ set.empty) }
+{
+    let there = volume.has(name)?;
+    volume.remove(name)?;
+    Ok(there)
 }
 
 // Each call of a volume and of its files once.
@@ -438,10 +441,16 @@ fn all_calls<V: Volume>(rt: &impl Abort, alloc: Global, volume: &mut V) -> Resul
     requires { V.out volume.old ≡ set.empty }
 {
     let name = named(b"a.ss")?;
-    new_pages(rt, alloc, volume, &name)?;
-    old_pages(rt, alloc, volume, &name)?;
-    both_logs(rt, volume, &name)?;
-    assert_eq!(rt; (volume.file_faults(), volume.faults()), (0, 0));
+    let mut image = image_of(alloc, 6)?;
+    let mut piece = [0u8; 2];
+    new_pages(volume, &name, &mut image)?;
+    assert_eq!(rt; image.bytes()[8191], 0);
+    old_pages(volume, &name, &mut image)?;
+    assert_eq!(rt; image.bytes()[8191], 6);
+    assert_eq!(rt; gone(volume, &name)?, true);
+    new_log(volume, &name)?;
+    old_log(volume, &name, &mut piece)?;
+    assert_eq!(rt; piece, [b'b', b'c']);
     Ok(())
 }
 
@@ -452,84 +461,4 @@ fn memory_suffices(rt: HostRuntime) -> Result<(), Fail> {
     all_calls(&rt, alloc, &mut volume)?;
     let mut sure = SureVolume::new(alloc)?;
     all_calls(&rt, alloc, &mut sure)
-}
-
-fn page_read<F: PageFile>(file: &mut F, n: u32, into: &mut Image) -> Result<(), Failed>
-    requires { n < F.count file.old }
-    ensures cause { HasCause (F.failures file.old) (F.failures file.new) result }
-    ensures count { F.count file.new ≡ F.count file.old }
-{
-    file.read_page(n, into)
-}
-
-fn page_written<F: PageFile>(file: &mut F, n: u32, from: &Image) -> Result<(), Failed>
-    requires { n < F.count file.old }
-    ensures { HasCause (F.failures file.old) (F.failures file.new) result }
-{
-    file.write_page(n, from)
-}
-
-// That no read or write of a page fails follows from the count alone, which is always 0.
-fn sure_page(file: &mut SurePages, n: u32, image: &mut Image)
-    requires { n < length file.old }
-{
-    page_read(file, n, image).unwrap();
-    page_written(file, n, image).unwrap();
-}
-
-fn log_read<L: LogFile>(log: &mut L, at: u64, into: &mut [u8]) -> Result<usize, Failed>
-    ensures { HasCause (L.failures log.old) (L.failures log.new) result }
-{
-    log.read_at(at, into)
-}
-
-fn log_appended<L: LogFile>(log: &mut L, bytes: &[u8]) -> Result<(), LogRefusal>
-    ensures { HasCauseOf LogRefusal.Failed (L.failures log.old) (L.failures log.new) result }
-{
-    log.append_at(0, bytes)
-}
-
-// The same of a log; only memory can be wanting.
-fn sure_log(log: &mut SureLog, piece: &mut [u8]) -> Result<(), LogRefusal>
-    ensures { result ≢ Err LogRefusal.Failed }
-{
-    let _ = log_read(log, 0, piece).unwrap();
-    log_appended(log, piece)
-}
-
-fn asked_for<V: Volume>(volume: &mut V, name: &FileName) -> Result<bool, Failed>
-    ensures { HasCause (V.failures volume.old) (V.failures volume.new) result }
-{
-    volume.has(name)
-}
-
-fn made<V: Volume>(volume: &mut V, name: &FileName) -> Result<V::Pages, VolRefusal>
-    ensures { HasCauseOf VolRefusal.Failed (V.failures volume.old) (V.failures volume.new) result }
-{
-    volume.create_pages(name, 1)
-}
-
-// The same of a volume's own calls.
-fn sure_volume(volume: &mut SureVolume, name: &FileName) -> Result<SurePages, VolRefusal>
-    ensures { result ≢ Err VolRefusal.Failed }
-{
-    let _ = asked_for(volume, name).unwrap();
-    made(volume, name)
-}
-
-#[test]
-fn sure_objects_never_fail(rt: HostRuntime) -> Result<(), Fail> {
-    let alloc = rt.alloc();
-    let a = named(b"a.ss")?;
-    let mut volume = SureVolume::new(alloc)?;
-    let mut file = sure_volume(&mut volume, &a)?;
-    let mut image = image_of(alloc, 5)?;
-    assert_eq!(rt; file.pages(), 1);
-    sure_page(&mut file, 0, &mut image);
-    assert_eq!(rt; (image.bytes()[0], file.faults()), (0, 0));
-    let mut log = volume.create_log(&named(b"a.log")?)?;
-    let mut piece = [7u8; 3];
-    assert_eq!(rt; sure_log(&mut log, &mut piece), Ok(()));
-    assert_eq!(rt; (log.read_at(0, &mut piece), log.faults()), (Ok(3), 0));
-    Ok(())
 }

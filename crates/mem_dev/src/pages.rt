@@ -1,6 +1,6 @@
 //! Page files in memory.
 
-ghost use Rattle.std.specs.Prelude.{◌≡◌, ◌⊎◌, ◌<◌, IsTrue, IsErr, IsOk, None, Some, OnOk, OnErr, length, is_err, is_some, slice_set, slice_index_or, if◌then◌else◌, refl};
+ghost use Rattle.std.specs.Prelude.{◌≡◌, ◌⊎◌, ◌+◌, ◌<◌, IsTrue, IsErr, IsOk, None, Some, OnOk, OnErr, length, is_err, is_some, slice_set, slice_index_or, if◌then◌else◌, refl};
 ghost use Rattle.page_dev.specs.Faults.{HasCause};
 ghost use Rattle.page_dev.specs.PageFile.{file_page, WritesPage};
 ghost use Rattle.mem_dev.specs.Plan.{planned, fails_next, one_call_less, after_call, one_more};
@@ -10,6 +10,7 @@ ghost use Rattle.mem_dev.specs.StoreLaws.{AreImages-sized, length-content};
 use crate::fault_plan::FaultPlan;
 use crate::file_rule::FileRule;
 use crate::page_store::PageStore;
+use ghost_log::Tally;
 use page_base::{Failed, Image};
 use page_dev::PageFile;
 use std::alloc::Global;
@@ -22,6 +23,7 @@ pub struct MemPages {
     store: PageStore,
     limit: Option<u32>,
     plan: FaultPlan,
+    calls: Tally,
     alloc: Global,
 }
 
@@ -30,19 +32,20 @@ impl Model for MemPages {
 
     ghost Value = { PagesState };
 
-    ghost view = { λ a. record { pages = a.store; limit = a.limit; plan = a.plan } };
+    ghost view = { λ a. record { pages = a.store; limit = a.limit; plan = a.plan; calls = a.calls } };
 }
 
 impl MemPages {
     /// A file of these pages that meets a rule.
     pub(crate) fn new(alloc: Global, store: PageStore, rule: FileRule) -> MemPages
-        ensures { result ≡ record { pages = store; limit = rule.limit; plan = planned rule.due } }
+        ensures { result ≡ record { pages = store; limit = rule.limit; plan = planned rule.due; calls = 0 } }
     {
         let (due, limit) = rule.into_parts();
         MemPages {
             store,
             limit,
             plan: FaultPlan::of(due),
+            calls: Tally::zero(),
             alloc,
         }
     }
@@ -56,6 +59,7 @@ impl MemPages {
             store,
             limit,
             plan,
+            calls: _,
             alloc: _,
         } = self;
         (store, FileRule::new(plan.into_due(), limit))
@@ -105,6 +109,8 @@ impl PageFile for MemPages {
 
     ghost failures = { λ file. file.plan.failures };
 
+    ghost calls = { λ file. file.calls };
+
     ghost counted = { λ file t. length-content file.pages };
 
     ghost sized = { λ file t. AreImages-sized (content_of file.pages) t };
@@ -120,6 +126,7 @@ impl PageFile for MemPages {
     fn read_page(&mut self, n: u32, into: &mut Image) -> Result<(), Failed>
         requires { n < length self.old.pages }
         ensures read { OnOk result (into.new ≡ file_page (content_of self.old.pages) n) }
+        ensures calls { self.new.calls ≡ self.old.calls + 1 }
         ensures cause { HasCause self.old.plan.failures self.new.plan.failures result }
 
         // the call fails exactly where it was to, and nothing else changes
@@ -128,6 +135,7 @@ impl PageFile for MemPages {
         ensures pages { self.new.pages ≡ self.old.pages }
         ensures limit { self.new.limit ≡ self.old.limit }
     {
+        self.calls.count();
         if self.plan.meets_fault() {
             return Err(Failed);
         }
@@ -139,6 +147,7 @@ impl PageFile for MemPages {
         requires { n < length self.old.pages }
         ensures written { WritesPage n from.now (content_of self.old.pages) (content_of self.new.pages) result }
         ensures tells { are_images self.new.pages ≡ are_images self.old.pages }
+        ensures calls { self.new.calls ≡ self.old.calls + 1 }
         ensures cause { HasCause self.old.plan.failures self.new.plan.failures result }
 
         // after a failure nothing changed but the count, which rose by one
@@ -153,6 +162,7 @@ impl PageFile for MemPages {
         ensures over { IsTrue (is_over self.old.limit self.old.pages n) → IsErr result }
         ensures only { IsErr result → IsTrue (is_some (slice_index_or self.old.pages n None)) → IsTrue (fails_next self.old.plan.due) }
     {
+        self.calls.count();
         if self.plan.meets_fault() {
             return Err(Failed);
         }
@@ -168,16 +178,16 @@ impl PageFile for MemPages {
 #[derive(Drop)]
 pub struct SurePages {
     store: PageStore,
+    calls: Tally,
 }
 
 impl Model for SurePages {
     ghost use Rattle.std.specs.Prelude.{IsTrue};
-    ghost use Rattle.page_dev.specs.PageFile.{FilePages};
-    ghost use Rattle.mem_dev.specs.Store.{content_of, is_full};
+    ghost use Rattle.mem_dev.specs.Store.{SureState, content_of, is_full};
 
-    ghost Value = { FilePages };
+    ghost Value = { SureState };
 
-    ghost view = { λ a. content_of a.store };
+    ghost view = { λ a. record { pages = content_of a.store; calls = a.calls } };
 
     ghost invariant = { λ a. IsTrue (is_full a.store) };
 }
@@ -186,32 +196,37 @@ impl SurePages {
     /// A file of these pages, of which each was written.
     pub(crate) fn new(store: PageStore) -> SurePages
         requires { IsTrue (is_full store) }
-        ensures { result ≡ content_of store }
+        ensures { result ≡ record { pages = content_of store; calls = 0 } }
     {
-        SurePages { store }
+        SurePages {
+            store,
+            calls: Tally::zero(),
+        }
     }
 
     /// The pages.
     pub(crate) fn into_store(self) -> PageStore
-        ensures { content_of result ≡ self }
+        ensures { content_of result ≡ self.pages }
     {
-        let SurePages { store } = self;
+        let SurePages { store, calls: _ } = self;
         store
     }
 }
 
 impl PageFile for SurePages {
-    ghost tells = { λ file. are_sized file };
+    ghost tells = { λ file. are_sized file.pages };
 
-    ghost content = { λ file. file };
+    ghost content = { λ file. file.pages };
 
-    ghost count = { λ file. length file };
+    ghost count = { λ file. length file.pages };
 
     ghost failures = { λ _. 0 };
 
+    ghost calls = { λ file. file.calls };
+
     ghost counted = { λ file t. refl };
 
-    ghost sized = { λ file t. AreImages-sized file t };
+    ghost sized = { λ file t. AreImages-sized file.pages t };
 
     fn faults(&self) -> u64 {
         0
@@ -222,21 +237,25 @@ impl PageFile for SurePages {
     }
 
     fn read_page(&mut self, n: u32, into: &mut Image) -> Result<(), Failed>
-        requires { n < length self.old }
+        requires { n < length self.old.pages }
         ensures ok { IsOk result }
-        ensures read { into.new ≡ file_page self.old n }
-        ensures pages { self.new ≡ self.old }
+        ensures read { into.new ≡ file_page self.old.pages n }
+        ensures pages { self.new.pages ≡ self.old.pages }
+        ensures calls { self.new.calls ≡ self.old.calls + 1 }
     {
+        self.calls.count();
         self.store.read(n, into);
         Ok(())
     }
 
     fn write_page(&mut self, n: u32, from: &Image) -> Result<(), Failed>
-        requires { n < length self.old }
+        requires { n < length self.old.pages }
         ensures ok { IsOk result }
-        ensures pages { self.new ≡ slice_set self.old n from.now }
-        ensures tells { are_sized self.new ≡ are_sized self.old }
+        ensures pages { self.new.pages ≡ slice_set self.old.pages n from.now }
+        ensures tells { are_sized self.new.pages ≡ are_sized self.old.pages }
+        ensures calls { self.new.calls ≡ self.old.calls + 1 }
     {
+        self.calls.count();
         self.store.overwrite(n, from);
         Ok(())
     }

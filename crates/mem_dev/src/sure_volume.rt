@@ -86,9 +86,9 @@ impl Volume for SureVolume {
 
     fn create_pages(&mut self, name: &FileName, pages: u32) -> Result<SurePages, VolRefusal>
         ensures folder { Creates name.now self.old self.new result }
-        ensures told { IfOk result (λ file. IsTrue (are_sized file)) }
-        ensures content { IfOk result (λ file. file ≡ new_pages pages) }
-        ensures count { IfOk result (λ file. length file ≡ pages) }
+        ensures told { IfOk result (λ file. IsTrue (are_sized file.pages)) }
+        ensures content { IfOk result (λ file. file.pages ≡ new_pages pages) }
+        ensures count { IfOk result (λ file. length file.pages ≡ pages) }
         ensures refusal { IfErr result IsOfCreate }
         ensures out { out_of self.new ≡ out_after (out_of self.old) name.now result }
         ensures sure { result ≢ Err VolRefusal.Failed }
@@ -112,8 +112,8 @@ impl Volume for SureVolume {
 
     fn take_pages(&mut self, name: &FileName, pages: u32) -> Result<SurePages, VolRefusal>
         requires { set.contains (out_of self.old) name.now ≡ false }
-        ensures taken { TakesPages are_sized (λ file. file) name.now pages self.old self.new result }
-        ensures count { IfOk result (λ file. length file ≡ pages) }
+        ensures taken { TakesPages (λ file. are_sized file.pages) (λ file. file.pages) name.now pages self.old self.new result }
+        ensures count { IfOk result (λ file. length file.pages ≡ pages) }
         ensures refusal { IfErr result (IsOfTakePages pages) }
         ensures out { out_of self.new ≡ out_after (out_of self.old) name.now result }
         ensures sure { result ≢ Err VolRefusal.Failed }
@@ -142,7 +142,7 @@ impl Volume for SureVolume {
     fn put_pages(&mut self, name: &FileName, file: SurePages) -> Result<(), Failed>
         requires { set.contains (out_of self.old) name.now ≡ true }
         ensures ok { IsOk result }
-        ensures folder { self.new ≡ map.insert self.old name.now (Lies (concat file)) }
+        ensures folder { self.new ≡ map.insert self.old name.now (Lies (concat file.pages)) }
         ensures out { out_of self.new ≡ set.remove (out_of self.old) name.now }
     {
         self.shelf.put(name, KeptFile::pages(file.into_store()));

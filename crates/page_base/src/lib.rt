@@ -6,6 +6,7 @@ mod compare;
 mod failure;
 mod file_name;
 mod image;
+mod limits;
 mod list;
 mod name;
 mod numbers;
@@ -18,6 +19,9 @@ pub use column::{ColType, Column, Columns};
 pub use failure::{Failed, NameRefusal, NoMemory};
 pub use file_name::FileName;
 pub use image::{Image, PAGE};
+pub use limits::{
+    MAX_FRAMES, MAX_KEY_BYTES, MAX_ROW_BYTES, MAX_SLOT_BYTES, MAX_SLOTS, MAX_SNAPSHOTS,
+};
 pub use list::ListOf;
 pub use name::Name;
 pub use numbers::{Mode, PageId, SessNo, SnapNo, TableNo};

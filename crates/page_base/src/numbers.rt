@@ -1,7 +1,7 @@
 //! Which page, session, snapshot or table is meant, each by a type of its own.
 
 /// A page: its data file, from 0, and its number in that file, from 0.
-#[derive(Clone, Copy, Debug, PartialEq, Eq, PartialOrd, Ord)]
+#[derive(Clone, Copy, Debug, PartialEq, Eq, PartialOrd, Ord, Hash)]
 pub struct PageId {
     pub file: u8,
     pub page: u32,

@@ -12,7 +12,7 @@ use Rattle.page_base.specs.Pages.{Pages, image_at, page_or, with_page, shape, bl
 use Rattle.page_base.proofs.PagesLemmas.{page_or-with_page_same}
 use Rattle.page_dev.specs.Faults.{HasCause, HasCauseAt, Rose, total}
 use Rattle.page_dev.specs.PageFile.{FilePages, file_page, WritesPage}
-use Rattle.page_dev.specs.Files.{all_true, Writes}
+use Rattle.page_dev.specs.Files.{all_true, called, Writes}
 
 -- a number below what stands at a place, so the place is there
 pub place_there : (xs : List ℕ) (i n : ℕ) → n < get_or xs i 0 → i < length xs
@@ -49,6 +49,10 @@ module _ {F X : Type 0} (f : F → X) (files : List F) (i : ℕ) (old new : F) (
 
   pub here : (xs : List X) (d : X) → i < length files → map f files ≡ xs → get_or xs i d ≡ f old
   here xs d h e = ap (λ l. get_or l i d) (sym e) ∙ get_or-map f files i old d h ∙ ap f (sym at)
+
+-- one call more on a file
+pub one_call : {F : Type 0} (calls : F → ℕ) (files : List F) (i : ℕ) (old new : F) (xs : List ℕ) → old ≡ get_or files i old → i < length files → map calls files ≡ xs → calls new ≡ calls old + 1 → map calls (set files i new) ≡ called xs i
+one_call calls files i old new xs at lt e more = moved calls files i old new at xs e ∙ ap (set xs i) (more ∙ ap (λ n. n + 1) (sym (here calls files i old new at xs 0 lt e)))
 
 -- faults
 pub faulted : {F T E : Type 0} (faults : F → ℕ) (files : List F) (i : ℕ) (old new : F) (xs : List ℕ) (result : Result T E) → old ≡ get_or files i old → i < length files → map faults files ≡ xs → HasCause (faults old) (faults new) result → HasCauseAt i xs (map faults (set files i new)) result

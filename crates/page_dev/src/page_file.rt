@@ -1,6 +1,6 @@
 //! A file of pages.
 
-ghost use Rattle.std.specs.Prelude.{◌≡◌, ◌<◌, ℕ, Bool, IsTrue, length, OnOk};
+ghost use Rattle.std.specs.Prelude.{◌≡◌, ◌+◌, ◌<◌, ℕ, Bool, IsTrue, length, OnOk};
 ghost use Rattle.page_dev.specs.Faults.{HasCause};
 ghost use Rattle.page_dev.specs.PageFile.{FilePages, AreImages, file_page, WritesPage};
 
@@ -20,6 +20,9 @@ pub trait PageFile: Drop {
     /// How many faults it met. The count never falls.
     ghost failures: { Self → ℕ };
 
+    /// How many reads and writes it was asked for, failed or not.
+    ghost calls: { Self → ℕ };
+
     /// How many faults it met.
     fn faults(&self) -> u64
         ensures { result ≡ failures self.now };
@@ -28,21 +31,24 @@ pub trait PageFile: Drop {
     fn pages(&self) -> u32
         ensures { result ≡ count self.now };
 
-    /// Reads page `n`. `Failed` only where the count of faults rose; no read, failed or not, changes the file.
+    /// Reads page `n`, by one call. `Failed` only where the count of faults rose; no read, failed or not, changes the
+    /// file.
     fn read_page(&mut self, n: u32, into: &mut Image) -> Result<(), Failed>
         requires { n < count self.old }
         ensures read { IsTrue (tells self.old) → OnOk result (into.new ≡ file_page (content self.old) n) }
         ensures content { IsTrue (tells self.old) → content self.new ≡ content self.old }
         ensures tells { tells self.new ≡ tells self.old }
         ensures count { count self.new ≡ count self.old }
+        ensures calls { calls self.new ≡ calls self.old + 1 }
         ensures cause { HasCause (failures self.old) (failures self.new) result };
 
-    /// Writes page `n`. `Failed` only where the count of faults rose, and then that page alone is open.
+    /// Writes page `n`, by one call. `Failed` only where the count of faults rose, and then that page alone is open.
     fn write_page(&mut self, n: u32, from: &Image) -> Result<(), Failed>
         requires { n < count self.old }
         ensures written { IsTrue (tells self.old) → WritesPage n from.now (content self.old) (content self.new) result }
         ensures tells { tells self.new ≡ tells self.old }
         ensures count { count self.new ≡ count self.old }
+        ensures calls { calls self.new ≡ calls self.old + 1 }
         ensures cause { HasCause (failures self.old) (failures self.new) result };
 
     /// Where it tells, it has as many pages as it counts.

@@ -73,7 +73,7 @@ rest_is_full : (y : List ℕ) (ys : List (List ℕ)) → LastIsFull (y ∷ ys) �
 rest_is_full y [] h = tt
 rest_is_full y (z ∷ zs) h = h
 
-same_slots : (xs ys : List (List ℕ)) → LastIsFull xs → LastIsFull ys → ((j : ℕ) → slot_at xs j ≡ slot_at ys j) → xs ≡ ys
+pub same_slots : (xs ys : List (List ℕ)) → LastIsFull xs → LastIsFull ys → ((j : ℕ) → slot_at xs j ≡ slot_at ys j) → xs ≡ ys
 same_slots [] [] hx hy h = refl
 same_slots [] (y ∷ ys) hx hy h = absurd (last_is_full y ys hy (sym (h (length ys))))
 same_slots (x ∷ xs) [] hx hy h = absurd (last_is_full x xs hx (h (length xs)))
@@ -83,13 +83,14 @@ same_slots (x ∷ xs) (y ∷ ys) hx hy h = λ i. h 0 i ∷ same_slots xs ys (res
 pub same_page : (a b : List ℕ) → IsPage a → IsPage b → ((j : ℕ) → slot_at (content a) j ≡ slot_at (content b) j) → a ≡ b
 same_page a b ha hb h = ha.spelled ∙ ap spell (same_slots (content a) (content b) ha.fits.last hb.fits.last h) ∙ sym hb.spelled
 
+-- an edit leaves no empty slot at the end
+pub LastIsFull-edited : (slots : List (List ℕ)) (i : ℕ) (x : List ℕ) → LastIsFull slots → LastIsFull (edited slots i x)
+LastIsFull-edited slots i [] last = LastIsFull-trimmed (set slots i [])
+LastIsFull-edited slots i (b ∷ bs) last = LastIsFull-set_slot slots i (b ∷ bs) (λ e. cc) last
+
 -- a slot that has these bytes already
 pub edited-same : (slots : List (List ℕ)) (i : ℕ) → LastIsFull slots → edited slots i (slot_at slots i) ≡ slots
-edited-same slots i last = same_slots (edited slots i (slot_at slots i)) slots (fits slots i (slot_at slots i) last) last (λ j. elim (cases_eq j i) [
+edited-same slots i last = same_slots (edited slots i (slot_at slots i)) slots (LastIsFull-edited slots i (slot_at slots i) last) last (λ j. elim (cases_eq j i) [
   | inl e ↦ ap (slot_at (edited slots i (slot_at slots i))) e ∙ slot_at-edited_same slots i (slot_at slots i) ∙ ap (slot_at slots) (sym e)
   | inr ne ↦ slot_at-edited_other slots i j (slot_at slots i) ne
 ])
-  where
-    fits : (slots : List (List ℕ)) (i : ℕ) (x : List ℕ) → LastIsFull slots → LastIsFull (edited slots i x)
-    fits slots i [] last = LastIsFull-trimmed (set slots i [])
-    fits slots i (b ∷ bs) last = LastIsFull-set_slot slots i (b ∷ bs) (λ e. cc) last

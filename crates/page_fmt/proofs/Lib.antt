@@ -12,3 +12,4 @@ mod MovingLemmas
 mod SplicingLemmas
 mod CheckLemmas
 pub mod SeenLemmas
+pub mod BridgeLemmas

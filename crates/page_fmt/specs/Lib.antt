@@ -4,3 +4,4 @@ pub mod Edits
 pub mod Faults
 pub mod Places
 pub mod Seen
+pub mod Bridge

@@ -4,6 +4,7 @@
 mod checking;
 mod editing;
 mod edits;
+mod law;
 mod moving;
 mod numbers;
 mod reading;
@@ -13,6 +14,7 @@ mod splicing;
 mod tests;
 
 pub use checking::{BadPage, check};
-pub use edits::{NoRoom, clear_slot, put_slot};
+pub use edits::{NoRoom, clear_slot, edit, put_slot};
+pub use law::slots_tell_pages;
 pub use reading::{slot, slots};
 pub use seen::Seen;

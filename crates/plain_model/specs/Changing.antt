@@ -5,6 +5,7 @@ use Rattle.page_base.specs.declared.column.Column.{Column}
 use Rattle.page_base.specs.declared.value.Value.{Value}
 use Rattle.plain_model.specs.declared.expr.Expr.{Expr}
 use Rattle.plain_model.specs.declared.stmt.SetItem.{SetItem}
+use Rattle.plain_model.specs.declared.reply.TheConstants.Message.{OVERFLOW}
 use Rattle.plain_model.specs.Cells.{cell}
 use Rattle.plain_model.specs.Outcomes.{Outcome, Refused, Taken, all_of, keeps, behind, unless_fault}
 use Rattle.plain_model.specs.Storing.{kept_as, row_fault}
@@ -24,7 +25,7 @@ set_row sets cols row = all_of (map (set_to sets cols row) cols)
 
 -- a row that is right by itself is taken
 abbrev pub if_right : List Column → Option (List Value) → Outcome (List Value)
-if_right cols None = Refused 8115
+if_right cols None = Refused OVERFLOW
 if_right cols (Some row) = unless_fault row (row_fault cols row)
 
 -- a row that the filter keeps is taken as the SETs make it

@@ -12,6 +12,7 @@ use Rattle.page_base.specs.declared.value.Value.TheVariants.{Null}
 use Rattle.page_base.specs.Order.{key_cmp}
 use Rattle.plain_model.specs.declared.expr.Expr.{Expr}
 use Rattle.plain_model.specs.declared.reply.Message.{Message}
+use Rattle.plain_model.specs.declared.reply.TheConstants.Message.{KEY_IS_THERE, OVERFLOW}
 use Rattle.plain_model.specs.Outcomes.{Outcome, Refused, Taken, after_row, all_of, unless_fault}
 use Rattle.plain_model.specs.Storing.{kept_as, new_row_fault}
 use Rattle.plain_model.specs.Tables.{key_of}
@@ -39,7 +40,7 @@ is_among keys key = list_any (eq_by_cmp key_cmp key) keys
 
 -- what refuses a key that is there
 abbrev pub key_clash : List (List Value) → List Value → Option ℕ
-key_clash keys key = if is_among keys key then Some 2627 else None
+key_clash keys key = if is_among keys key then Some KEY_IS_THERE else None
 
 -- what refuses a new row, where these keys are there: first the row by itself, then its key
 abbrev pub fault_among : List Column → List (List Value) → List Value → Option ℕ
@@ -47,7 +48,7 @@ fault_among cols keys row = option_or (new_row_fault cols row) (key_clash keys (
 
 -- what becomes of a new row, where these keys are there
 abbrev pub inserted_row : List Column → List (List Value) → Option (List Value) → Outcome (List Value)
-inserted_row cols keys None = Refused 8115
+inserted_row cols keys None = Refused OVERFLOW
 inserted_row cols keys (Some row) = unless_fault row (fault_among cols keys row)
 
 -- the keys with that of a row that was taken

@@ -1,24 +1,16 @@
 -- Which event may come in a state, and where it leads: legal histories.
-use Rattle.std.specs.Prelude.{ℕ, ◌+◌, ◌-◌, ◌≤◌, ◌≡◌, ◌⊎◌, true, false, ◌==◌, ◌&&◌, not, if◌then◌else◌, List, [], ◌∷◌, ◌++◌, map, filter, slice_set, Option, Some, None, unwrap_or, IsTrue}
+use Rattle.std.specs.Prelude.{ℕ, ◌+◌, ◌≤◌, ◌≡◌, ◌⊎◌, true, false, ◌==◌, ◌&&◌, not, if◌then◌else◌, List, [], ◌∷◌, ◌++◌, map, Option, Some, None, unwrap_or, IsTrue}
 use Rattle.std.specs.Str.{bytes_eq}
-use Rattle.std.specs.List.{list_any}
 use Rattle.plain_model.specs.declared.stmt.Stmt.{Stmt}
-use Rattle.plain_model.specs.declared.stmt.Stmt.TheVariants.{UseDb, CreateTable, Insert, Update, Delete, CreateSnap}
-use Rattle.plain_model.specs.declared.reply.Message.{Message}
+use Rattle.plain_model.specs.declared.stmt.Stmt.TheVariants.{CreateSnap}
 use Rattle.plain_model.specs.declared.event.Event.{Event}
 use Rattle.plain_model.specs.declared.event.Event.TheVariants.{Locked, CutAt, RestoreAt, Turned, Said, Left}
-use Rattle.plain_model.specs.declared.reply.Reply.{Reply}
-use Rattle.plain_model.specs.declared.reply.Reply.TheVariants.{Msg}
-use Rattle.plain_model.specs.Tables.{Change}
-use Rattle.plain_model.specs.Journal.{Opening, Committed, Cut, Dropped}
-use Rattle.plain_model.specs.State.{Plain, Session, Snap, session, stmt_of, is_session, is_snap, is_suspect, see, master, start}
-use Rattle.plain_model.specs.Meaning.{change_and_reply}
+use Rattle.plain_model.specs.Journal.{Opening, Cut}
+use Rattle.plain_model.specs.State.{Plain, Session, Snap, session, stmt_of, is_session, is_snap, is_suspect, master, start}
+use Rattle.plain_model.specs.Keeping.{kept_locks, with_gain}
 use Rattle.plain_model.specs.Next.{Replies, Wants, Cuts, Restores, sparse_names, next}
 use Rattle.plain_model.specs.Free.{IsFree}
-
--- the state with another session k
-abbrev pub with_session : Plain → ℕ → Session → Plain
-with_session st k s = record st { sessions = slice_set st.sessions (k - 1) s }
+pub use Rattle.plain_model.specs.Effects.{with_session, without_names, with_changes, outside, after_commit, uncommitted, with_doubt, without_snap, without_made, unmade, dropped, undropped, reverted, effect}
 
 -- one more event has come
 abbrev pub counted : Plain → Plain
@@ -32,10 +24,6 @@ with_first st s = record s { first = Some (unwrap_or s.first st.moment) }
 abbrev pub new_names : Option Stmt → List (List ℕ)
 new_names (Some (CreateSnap snap files of)) = sparse_names files
 new_names _ = []
-
--- a list without these names
-abbrev pub without_names : List (List ℕ) → List (List ℕ) → List (List ℕ)
-without_names names others = filter (λ n. not (list_any (bytes_eq n) names)) others
 
 -- a snapshot is cut: it keeps a copy of the source, and its files are on the volume
 abbrev pub after_cut : Plain → ℕ → List ℕ → Plain
@@ -53,54 +41,16 @@ after_cut st k snap =
 abbrev pub turned : List ℕ → Snap → Snap
 turned snap s = if bytes_eq s.name snap then record s { suspect = true } else s
 
--- Outside a transaction the changes are committed at once, else they wait in the session's work. A statement without
--- changes commits nothing.
-abbrev pub with_changes : Plain → ℕ → List Change → Plain
-with_changes st k [] = st
-with_changes st k (c ∷ cs) =
-    let s = session st k in
-    if s.depth == 0 then record st { journal = Committed k (c ∷ cs) ∷ st.journal }
-    else with_session st k (record s { work = s.work ++ c ∷ cs })
-
--- nobody knows whether these names are on the volume
-abbrev pub with_doubt : Plain → List (List ℕ) → Plain
-with_doubt st names = record st { on_volume = without_names names st.on_volume; in_doubt = names ++ st.in_doubt }
-
--- the snapshot is dropped
-abbrev pub without_snap : Plain → List ℕ → Plain
-without_snap st snap = record st { journal = Dropped snap ∷ st.journal; snaps = filter (λ s. not (bytes_eq s.name snap)) st.snaps }
-
--- the snapshot that a session is making, if any, is dropped
-abbrev pub without_made : Plain → Option (List ℕ) → Plain
-without_made st None = st
-without_made st (Some snap) = without_snap st snap
-
--- A refusal of CREATE DATABASE has no effect, but where its files failed: then the snapshot isn't there, and nobody
--- knows whether its files are.
-abbrev pub unmade : Plain → ℕ → List (List ℕ) → Message → Plain
-unmade st k names m = if m.number == 60021 then with_doubt (without_made st (session st k).making) names else st
-
--- the effect of a statement's own on the tables and the session; a refusal has none
-abbrev pub effect : Plain → ℕ → Option Stmt → Reply → Plain
-effect st k (Some (CreateSnap snap files of)) (Msg m) = unmade st k (sparse_names files) m
-effect st k stmt (Msg m) = st
-effect st k (Some (UseDb d)) reply = let s = session st k in with_session st k (record s { current = d })
-effect st k (Some (CreateTable name cols)) reply = with_changes st k (change_and_reply (CreateTable name cols) (see st k)).0
-effect st k (Some (Insert i)) reply = with_changes st k (change_and_reply (Insert i) (see st k)).0
-effect st k (Some (Update u)) reply = with_changes st k (change_and_reply (Update u) (see st k)).0
-effect st k (Some (Delete d)) reply = with_changes st k (change_and_reply (Delete d) (see st k)).0
-effect st k stmt reply = st
-
 -- the restoring of session k is over
 abbrev pub without_restoring : ℕ → Option (ℕ × List ℕ) → Option (ℕ × List ℕ)
 without_restoring k None = None
 without_restoring k (Some r) = if r.0 == k then None else Some r
 
--- a reply ends the making and the restoring of its session, and outside a transaction it frees the locks
+-- a reply ends the making and the restoring of its session, and frees locks
 abbrev pub answered : Plain → ℕ → ℕ → Plain
 answered st k number =
     let s = session st k in
-    record (with_session st k (record s { said = number; making = None; locks = if s.depth == 0 then [] else s.locks; since = st.moment + 1; first = None })) {
+    record (with_session st k (record s { said = number; making = None; locks = kept_locks s; gained = []; since = st.moment + 1; first = None })) {
       restoring = without_restoring k st.restoring;
     }
 
@@ -108,7 +58,7 @@ answered st k number =
 abbrev pub after : Plain → Event → Plain
 after st (Locked who table mode) =
     let s = session st who.0 in
-    counted (with_session st who.0 (with_first st (record s { locks = (table, mode) ∷ s.locks })))
+    counted (with_session st who.0 (with_first st (record s { locks = (table, mode) ∷ s.locks; gained = with_gain table mode s.gained })))
 after st (CutAt who snap) = counted (after_cut st who.0 snap)
 after st (RestoreAt who snap) =
     let s = session st who.0 in
@@ -117,7 +67,7 @@ after st (Turned snap) = counted (record st { snaps = map (turned snap) st.snaps
 after st (Said who number began reply) = counted (answered (effect st who.0 (stmt_of st who.0) reply) who.0 number)
 after st (Left who) =
     let s = session st who.0 in
-    counted (with_session st who.0 (record s { current = master; depth = 0; work = []; locks = []; gone = true }))
+    counted (with_session st who.0 (record s { current = master; depth = 0; work = []; locks = []; gained = []; gone = true }))
 
 -- the statement began after the session's last reply, and not after its own first event
 abbrev pub MayHaveBegun : Plain → ℕ → ℕ → Type 0

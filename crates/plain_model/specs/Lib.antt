@@ -24,10 +24,17 @@ pub mod Statements
 pub mod Journal
 pub mod State
 pub mod Holding
+pub mod Keeping
+pub mod Users
 pub mod Meaning
+pub mod Coming
+pub mod OfSnaps
 pub mod Next
 pub mod Free
+pub mod Effects
 pub mod Legal
+pub mod Alone
+pub mod Unlocked
 pub mod Complete
 pub mod Printed
 pub mod Order

@@ -8,6 +8,7 @@ use Rattle.page_base.specs.declared.value.Truth.{Truth}
 use Rattle.page_base.specs.declared.value.Truth.TheVariants.{True, False, Unknown}
 use Rattle.plain_model.specs.declared.expr.Expr.{Expr}
 use Rattle.plain_model.specs.declared.reply.Message.{Message}
+use Rattle.plain_model.specs.declared.reply.TheConstants.Message.{OVERFLOW}
 use Rattle.plain_model.specs.Messages.{at_place}
 use Rattle.plain_model.specs.Tree.{tree_of}
 use Rattle.plain_model.specs.Truths.{truth_of}
@@ -38,7 +39,7 @@ all_of (Some x ∷ xs) = option_map (λ more. x ∷ more) (all_of xs)
 
 -- an overflow refuses the row
 abbrev pub or_overflow : {X : Type 0} → Option X → Outcome X
-or_overflow None = Refused 8115
+or_overflow None = Refused OVERFLOW
 or_overflow (Some x) = Taken x
 
 -- a row is kept where the filter is TRUE
@@ -54,7 +55,7 @@ keeps cols (Some e) row = option_map is_kept (truth_of cols row (tree_of e))
 
 -- what becomes of a row behind a filter
 abbrev pub behind : {X : Type 0} → Option Bool → Outcome X → Outcome X
-behind None outcome = Refused 8115
+behind None outcome = Refused OVERFLOW
 behind (Some true) outcome = outcome
 behind (Some false) outcome = Passed
 

@@ -14,6 +14,7 @@ use Rattle.plain_model.specs.declared.stmt.Sum.{Sum}
 use Rattle.plain_model.specs.declared.stmt.Sum.TheVariants.{CountAll, SumOf}
 use Rattle.plain_model.specs.declared.stmt.UpdateStmt.{UpdateStmt}
 use Rattle.plain_model.specs.declared.stmt.DeleteStmt.{DeleteStmt}
+use Rattle.plain_model.specs.declared.reply.TheConstants.Message.{KEY_UPDATE, NO_COLUMN, TYPE_CLASH}
 use Rattle.plain_model.specs.Inserting.{target_names}
 use Rattle.plain_model.specs.Messages.{first_that}
 use Rattle.plain_model.specs.Names.{first_unknown, is_unknown}
@@ -80,29 +81,29 @@ may_all_stand cols [] (e ∷ exprs) = false
 may_all_stand cols (name ∷ names) [] = false
 may_all_stand cols (name ∷ names) (e ∷ exprs) = may_stand cols name (type_in [] e) && may_all_stand cols names exprs
 
--- a SELECT: 207 for a name, 60013 for a type
+-- a SELECT: NO_COLUMN for a name, TYPE_CLASH for a type
 abbrev pub select_fault : SelectStmt → List Column → Option ℕ
 select_fault s cols = first_that (
-    (are_lost cols s.items || (is_lost_filter cols s.filter || list_any (λ o. is_unknown cols o.col) s.order), 207)
-    ∷ (are_ill cols s.items || is_ill_filter cols s.filter, 60013) ∷ [])
+    (are_lost cols s.items || (is_lost_filter cols s.filter || list_any (λ o. is_unknown cols o.col) s.order), NO_COLUMN)
+    ∷ (are_ill cols s.items || is_ill_filter cols s.filter, TYPE_CLASH) ∷ [])
 
--- an INSERT: 207 for a name, 60013 for a column named twice and for a list of values that doesn't suit its columns
+-- an INSERT: NO_COLUMN for a name, TYPE_CLASH for a column named twice and for a list of values that doesn't suit its columns
 abbrev pub insert_fault : InsertStmt → List Column → Option ℕ
 insert_fault i cols = first_that (
-    (list_any (is_unknown cols) i.cols, 207)
-    ∷ (not (are_distinct i.cols) || not (list_all (may_all_stand cols (target_names i.cols cols)) i.rows), 60013) ∷ [])
+    (list_any (is_unknown cols) i.cols, NO_COLUMN)
+    ∷ (not (are_distinct i.cols) || not (list_all (may_all_stand cols (target_names i.cols cols)) i.rows), TYPE_CLASH) ∷ [])
 
 -- a column of the key has this name
 abbrev pub is_key_name : List Column → List ℕ → Bool
 is_key_name cols name = list_any (λ c. bytes_eq c.name name && nat_le 1 c.key) cols
 
--- an UPDATE: 207 for a name, 60012 for a column of the key, 60013 for a column set twice and for a type
+-- an UPDATE: NO_COLUMN for a name, KEY_UPDATE for a column of the key, TYPE_CLASH for a column set twice and for a type
 abbrev pub update_fault : UpdateStmt → List Column → Option ℕ
 update_fault u cols = first_that (
-    (list_any (λ i. is_unknown cols i.col || is_lost cols i.to) u.sets || is_lost_filter cols u.filter, 207)
-    ∷ (list_any (λ i. is_key_name cols i.col) u.sets, 60012)
-    ∷ (not (are_distinct (map (λ i. i.col) u.sets)) || (not (list_all (λ i. may_stand cols i.col (type_in cols i.to)) u.sets) || is_ill_filter cols u.filter), 60013) ∷ [])
+    (list_any (λ i. is_unknown cols i.col || is_lost cols i.to) u.sets || is_lost_filter cols u.filter, NO_COLUMN)
+    ∷ (list_any (λ i. is_key_name cols i.col) u.sets, KEY_UPDATE)
+    ∷ (not (are_distinct (map (λ i. i.col) u.sets)) || (not (list_all (λ i. may_stand cols i.col (type_in cols i.to)) u.sets) || is_ill_filter cols u.filter), TYPE_CLASH) ∷ [])
 
--- a DELETE: 207 for a name, 60013 for a type
+-- a DELETE: NO_COLUMN for a name, TYPE_CLASH for a type
 abbrev pub delete_fault : DeleteStmt → List Column → Option ℕ
-delete_fault d cols = first_that ((is_lost_filter cols d.filter, 207) ∷ (is_ill_filter cols d.filter, 60013) ∷ [])
+delete_fault d cols = first_that ((is_lost_filter cols d.filter, NO_COLUMN) ∷ (is_ill_filter cols d.filter, TYPE_CLASH) ∷ [])

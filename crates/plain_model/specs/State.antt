@@ -1,8 +1,10 @@
 -- The state of the plain machine.
-use Rattle.std.specs.Prelude.{ℕ, ◌-◌, nat_le, Bool, false, ◌&&◌, ◌||◌, List, [], length, map, find, slice_get, slice_index_or, Option, Some, None, is_some, codes}
+use Rattle.std.specs.Prelude.{ℕ, ◌-◌, nat_le, Bool, false, ◌==◌, ◌&&◌, ◌||◌, if◌then◌else◌, List, [], length, map, find, slice_get, slice_index_or, Option, Some, None, is_some, option_map, unwrap_or, codes}
 use Rattle.std.specs.Str.{bytes_eq}
 use Rattle.std.specs.List.{list_any}
 use Rattle.page_base.specs.declared.numbers.Mode.{Mode}
+use Rattle.plain_model.specs.declared.stmt.Level.{Level}
+use Rattle.plain_model.specs.declared.stmt.Level.TheVariants as levels
 use Rattle.plain_model.specs.declared.stmt.Stmt.{Stmt}
 use Rattle.plain_model.specs.declared.event.LockName.{LockName}
 use Rattle.plain_model.specs.Tables.{Tables, Change, apply}
@@ -14,11 +16,16 @@ pub record Session : Type 0 where
   -- how many of its statements were answered
   pub said : ℕ
   pub current : List ℕ
+  -- how long its transactions keep what their reads lock
+  pub level : Level
+  -- how many of its BEGIN TRAN are open
   pub depth : ℕ
   -- the changes of its open transaction, in order
   pub work : List Change
   -- the locks that it gained, the newest first
   pub locks : List (LockName × Mode)
+  -- what its present statement has gained in S
+  pub gained : List LockName
   -- the snapshot that it is making, until its CREATE DATABASE is answered
   pub making : Option (List ℕ)
   pub gone : Bool
@@ -54,8 +61,9 @@ pub record Plain : Type 0 where
 abbrev pub master : List ℕ
 master = codes "master"
 
+-- before its first statement; a session reads what is committed, unless it asks for more
 abbrev pub fresh_session : Session
-fresh_session = record { said = 0; current = master; depth = 0; work = []; locks = []; making = None; gone = false; since = 0; first = None }
+fresh_session = record { said = 0; current = master; level = levels.Committed; depth = 0; work = []; locks = []; gained = []; making = None; gone = false; since = 0; first = None }
 
 abbrev pub opened_snap : OpenedSnap → Snap
 opened_snap s = record { name = s.name; files = s.files; cut = s.cut; suspect = s.suspect }
@@ -108,6 +116,10 @@ snap_named st d = find (λ s. bytes_eq s.name d) st.snaps
 abbrev pub is_snap : Plain → List ℕ → Bool
 is_snap st d = is_some (snap_named st d)
 
+-- the files of an open snapshot
+abbrev pub files_of : Plain → List ℕ → List (List ℕ)
+files_of st d = unwrap_or (option_map (λ s. s.files) (snap_named st d)) []
+
 abbrev pub is_suspect : Plain → List ℕ → Bool
 is_suspect st d = list_any (λ s. bytes_eq s.name d && s.suspect) st.snaps
 
@@ -118,6 +130,14 @@ is_being_made st d = list_any (λ s. makes d s.making) st.sessions
     makes : List ℕ → Option (List ℕ) → Bool
     makes d None = false
     makes d (Some snap) = bytes_eq snap d
+
+-- the snapshot to which this session reverts the source, if it does
+abbrev pub restored : Plain → ℕ → Option (List ℕ)
+restored st k = by st.restoring
+  where
+    by : Option (ℕ × List ℕ) → Option (List ℕ)
+    by None = None
+    by (Some r) = if r.0 == k then Some r.1 else None
 
 -- the source and the snapshot to which it is reverted are restoring
 abbrev pub is_restoring : Plain → List ℕ → Bool

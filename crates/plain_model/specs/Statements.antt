@@ -14,6 +14,7 @@ use Rattle.plain_model.specs.declared.stmt.OrderItem.{OrderItem}
 use Rattle.plain_model.specs.declared.reply.Message.{Message}
 use Rattle.plain_model.specs.declared.reply.Reply.{Reply}
 use Rattle.plain_model.specs.declared.reply.Reply.TheVariants.{Ok, Count, Msg}
+use Rattle.plain_model.specs.declared.reply.TheConstants.Message.{NO_TABLE, TABLE_IS_THERE}
 use Rattle.plain_model.specs.Changing.{updated_row, deleted_row}
 use Rattle.plain_model.specs.Inserting.{target_names, new_row, inserted_from}
 use Rattle.plain_model.specs.Messages.{plain}
@@ -25,13 +26,13 @@ use Rattle.plain_model.specs.Totals.{select_totals}
 
 -- a statement needs its table, and suits its columns
 abbrev pub needs : (List Column → Option ℕ) → Option Table → Option Message
-needs fault None = Some (plain 208)
+needs fault None = Some (plain NO_TABLE)
 needs fault (Some t) = option_map plain (fault t.cols)
 
 -- CREATE TABLE needs that there is no table of the name
 abbrev pub is_new : Option Table → Option Message
 is_new None = None
-is_new (Some t) = Some (plain 2714)
+is_new (Some t) = Some (plain TABLE_IS_THERE)
 
 -- the first refusal that the statement's shape gives over its table, which may not be there
 abbrev pub shape_over : Stmt → Option Table → Option Message

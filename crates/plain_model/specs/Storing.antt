@@ -10,6 +10,8 @@ use Rattle.plain_model.specs.Messages.{first_that}
 use Rattle.plain_model.specs.Numbers.{stored}
 use Rattle.plain_model.specs.Sizes.{size_of_row, size_of_values}
 use Rattle.plain_model.specs.Tables.{key_of}
+use Rattle.page_base.specs.declared.limits.TheConstants.{MAX_ROW_BYTES, MAX_KEY_BYTES}
+use Rattle.plain_model.specs.declared.reply.TheConstants.Message.{KEY_TOO_LONG, NULL_VALUE, ROW_TOO_LONG, TEXT_TOO_LONG}
 
 -- a value as a column of this type keeps it; none is a number that INT doesn't hold
 abbrev pub kept_as : ColType → Value → Option Value
@@ -43,11 +45,11 @@ some_cell test (column ∷ columns) (value ∷ row) = test column value || some_
 
 -- what refuses a row by itself: a NULL where none may stand, a text longer than its column, more than 8,060 bytes
 abbrev pub row_fault : List Column → List Value → Option ℕ
-row_fault cols row = first_that ((some_cell lacks cols row, 515) ∷ (some_cell overflows cols row, 60014) ∷ (nat_lt 8060 (size_of_row row), 60015) ∷ [])
+row_fault cols row = first_that ((some_cell lacks cols row, NULL_VALUE) ∷ (some_cell overflows cols row, TEXT_TOO_LONG) ∷ (nat_lt MAX_ROW_BYTES (size_of_row row), ROW_TOO_LONG) ∷ [])
 
--- what refuses a key by itself: values of more than 900 bytes
+-- what refuses a key by itself: values of too many bytes
 abbrev pub key_fault : List Value → Option ℕ
-key_fault key = if nat_lt 900 (size_of_values key) then Some 60017 else None
+key_fault key = if nat_lt MAX_KEY_BYTES (size_of_values key) then Some KEY_TOO_LONG else None
 
 -- what refuses a new row by itself: first as a row, then by its key
 abbrev pub new_row_fault : List Column → List Value → Option ℕ

@@ -14,6 +14,7 @@ use Rattle.plain_model.specs.declared.stmt.Sum.TheVariants.{CountAll, SumOf}
 use Rattle.plain_model.specs.declared.reply.Message.{Message}
 use Rattle.plain_model.specs.declared.reply.Reply.{Reply}
 use Rattle.plain_model.specs.declared.reply.Reply.TheVariants.{Rows, Msg}
+use Rattle.plain_model.specs.declared.reply.TheConstants.Message.{OVERFLOW}
 use Rattle.plain_model.specs.Messages.{at_place}
 use Rattle.plain_model.specs.Numbers.{number_in, stored}
 use Rattle.plain_model.specs.Outcomes.{Outcome, taken_from, all_of, or_overflow, keeps, behind}
@@ -61,9 +62,9 @@ abbrev pub aggregates_from : List Column → List (List Value) → ℕ → List 
 aggregates_from cols taken place [] = []
 aggregates_from cols taken place (sum ∷ sums) = aggregate cols taken place sum ∷ aggregates_from cols taken (place + 1) sums
 
--- one row, or 8115 with place 0 where an aggregate is outside its type
+-- one row, or OVERFLOW with place 0 where an aggregate is outside its type
 abbrev pub totals_row : Option (List Value) → Reply
-totals_row None = Msg (at_place 8115 0)
+totals_row None = Msg (at_place OVERFLOW 0)
 totals_row (Some values) = Rows (map shown values ∷ [])
 
 -- the aggregates, or the refusal of the first row that fails

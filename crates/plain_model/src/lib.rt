@@ -5,6 +5,7 @@ mod event;
 mod expr;
 mod expr_type;
 mod kind;
+mod messages;
 mod pick;
 mod reply;
 mod scripts;

@@ -5,3 +5,4 @@ mod FieldLemmas
 mod EntryLemmas
 pub mod LogLemmas
 pub mod UndoneLemmas
+pub mod UndonePagesLemmas

@@ -4,3 +4,4 @@ pub mod Entries
 pub mod Reading
 pub mod Logs
 pub mod Undone
+pub mod UndonePages

@@ -2,6 +2,7 @@
 #![tactic(auto)]
 
 mod entries;
+mod law;
 mod reader;
 mod reading;
 mod refusal;
@@ -12,6 +13,7 @@ mod transaction;
 mod writing;
 
 pub use entries::{LogEntry, LogList};
+pub use law::undone_pages_are_undone_slots;
 pub use reading::read_log;
 pub use refusal::LogForm;
 pub use slot_record::Rec;

@@ -1,6 +1,6 @@
 //! The records of one transaction, with room taken in advance for those that are still to come.
 
-ghost use Rattle.std.specs.Prelude.{◌≡◌, ◌+◌, ◌<◌, ◌≤◌, ◌↔◌, ◌++◌, ◌∷◌, [], ℕ, length, slice_get, slice_index_or, IsTrue, IsOk, IfOk, OnOk, IfSome, IfNone};
+ghost use Rattle.std.specs.Prelude.{◌≡◌, ◌+◌, ◌<◌, ◌≤◌, ◌↔◌, ◌++◌, ◌∷◌, [], ℕ, length, slice_get, slice_index_or, IsTrue, IsOk, IfOk, OnOk, OnErr, IfSome, IfNone, List};
 ghost use Rattle.rec_log.specs.Records.{Record, IsRecord};
 
 use crate::Rec;
@@ -55,6 +55,7 @@ impl Work {
 
     /// Takes the last record, and keeps its room; None exactly where there is none.
     pub fn pop(&mut self) -> Option<Rec>
+        ensures record { IfSome result IsRecord }
         ensures last { IfSome result (λ rec. self.old.recs ≡ self.new.recs ++ rec ∷ []) }
         ensures spare { IfSome result (λ rec. self.new.spare ≡ self.old.spare + 1) }
         ensures none { IfNone result (self.old.recs ≡ []) }
@@ -82,8 +83,18 @@ impl Work {
         requires { place < length self.now.recs }
         ensures get { slice_get self.now.recs place ≡ Some result.now }
         ensures value { (d : Record) → slice_index_or self.now.recs place d ≡ result.now }
+        ensures record { IsRecord result.now }
     {
         &self.recs[place]
+    }
+
+    /// The last record; None exactly where there is none.
+    pub fn last(&self) -> Option<&Rec>
+        ensures last { IfSome result (λ rec. (front : List Record) × (self.now.recs ≡ front ++ rec.now ∷ [])) }
+        ensures none { IfNone result (self.now.recs ≡ []) }
+        ensures record { IfSome result (λ rec. IsRecord rec.now) }
+    {
+        self.recs.last()
     }
 
     /// All records, in order.
@@ -91,6 +102,16 @@ impl Work {
         ensures { result.now ≡ self.now.recs }
     {
         self.recs.as_slice()
+    }
+
+    /// Adds the records of another transaction at the end, once more. After want of memory the records are as before.
+    pub fn append_copy(&mut self, alloc: Global, from: &Work) -> Result<(), NoMemory>
+        ensures ok { OnOk result (self.new.recs ≡ self.old.recs ++ from.now.recs) }
+        ensures err { OnErr result (self.new.recs ≡ self.old.recs) }
+    {
+        let mut copies = copied(alloc, &from.recs)?;
+        self.recs.append(&mut copies)?;
+        Ok(())
     }
 
     /// The same records once more.

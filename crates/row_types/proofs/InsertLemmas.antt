@@ -10,6 +10,7 @@ use Rattle.page_base.specs.declared.value.Value.{Value}
 use Rattle.plain_model.specs.declared.expr.Expr.{Expr}
 use Rattle.plain_model.specs.declared.stmt.InsertStmt.{InsertStmt}
 use Rattle.plain_model.specs.declared.stmt.Stmt.TheVariants.{Insert}
+use Rattle.plain_model.specs.declared.reply.TheConstants.Message.{NO_COLUMN, TYPE_CLASH}
 use Rattle.plain_model.specs.Inserting.{target_names, given_for, new_row, key_clash, fault_among, inserted_row, with_taken, inserted_from}
 use Rattle.plain_model.specs.Names.{is_unknown}
 use Rattle.plain_model.specs.Shape.{each_leaf, is_no_column}
@@ -73,8 +74,8 @@ insert_takes i t sound definition fault =
     let names : List (List ℕ) = target_names i.cols t.cols in
     let may : Bool = list_all (may_all_stand t.cols names) i.rows in
     let ill : Bool = not (are_distinct i.cols) || not may in
-    let known = none_first (list_any (is_unknown t.cols) i.cols) 207 ((ill, 60013) ∷ []) fault in
-    let well = or_parts (not (are_distinct i.cols)) (not may) (none_first ill 60013 [] known.1).0 in
+    let known = none_first (list_any (is_unknown t.cols) i.cols) NO_COLUMN ((ill, TYPE_CLASH) ∷ []) fault in
+    let well = or_parts (not (are_distinct i.cols)) (not may) (none_first ill TYPE_CLASH [] known.1).0 in
     let entries = (and_parts (nat_le (length i.rows) 1000) (list_all (list_all is_entry) i.rows) sound).1 in
     inserted_all t.cols (finite.keys t.rows) 1 (map (new_row names t.cols) i.rows)
     (each_new t.cols names i.rows (definition_firsts t.cols definition) (not_false may well.1) entries)

@@ -20,6 +20,7 @@ use Rattle.plain_model.specs.Statements.{shape_over, changes_of, data_over}
 use Rattle.plain_model.specs.Storing.{row_fault, key_fault, lacks, overflows, some_cell}
 use Rattle.plain_model.specs.Tables.{Table, Change, Put, Cut, key_of, rows_of}
 use Rattle.plain_model.specs.declared.stmt.Stmt.{Stmt}
+use Rattle.plain_model.specs.declared.reply.TheConstants.Message.{KEY_TOO_LONG, NULL_VALUE, ROW_TOO_LONG, TEXT_TOO_LONG}
 use Rattle.plain_model.specs.Sizes.{size_of_row, size_of_values, size_of_value}
 use Rattle.row_fmt.specs.Rows.{FitsColumns, row_bytes, InRange, IsRowOf}
 use Rattle.row_fmt.specs.Keys.{key_bytes}
@@ -101,9 +102,9 @@ puts_what_fits stmt t sound fits shape =
 row_small : (cols : List Column) (row : List Value) → row_fault cols row ≡ None → length (row_bytes row) ≤ 8060
 row_small cols row e =
     let size : ℕ = size_of_row row in
-    let there = none_first (some_cell lacks cols row) 515 ((some_cell overflows cols row, 60014) ∷ (nat_lt 8060 size, 60015) ∷ []) e in
-    let short = none_first (some_cell overflows cols row) 60014 ((nat_lt 8060 size, 60015) ∷ []) there.1 in
-    within (none_first (nat_lt 8060 size) 60015 [] short.1).0
+    let there = none_first (some_cell lacks cols row) NULL_VALUE ((some_cell overflows cols row, TEXT_TOO_LONG) ∷ (nat_lt 8060 size, ROW_TOO_LONG) ∷ []) e in
+    let short = none_first (some_cell overflows cols row) TEXT_TOO_LONG ((nat_lt 8060 size, ROW_TOO_LONG) ∷ []) there.1 in
+    within (none_first (nat_lt 8060 size) ROW_TOO_LONG [] short.1).0
   where
     within : nat_lt 8060 (size_of_row row) ≡ false → length (row_bytes row) ≤ 8060
     within h = let sized = row_sized row in grind (arith, nat_tests)
@@ -111,7 +112,7 @@ row_small cols row e =
 key_small : (cols : List Column) (row : List Value) → is_definition cols ≡ true → key_fault (key_of cols row) ≡ None → length (key_bytes cols row) ≤ 900
 key_small cols row definition e = let sized = key_sized cols row (definition_places cols definition) in within (size_of_values (key_of cols row)) sized (nat_lt 900 (size_of_values (key_of cols row))) refl e
   where
-    within : (size : ℕ) → length (key_bytes cols row) ≡ size → (b : Bool) → nat_lt 900 size ≡ b → cond {A = Option ℕ} b (Some 60017) None ≡ None → length (key_bytes cols row) ≤ 900
+    within : (size : ℕ) → length (key_bytes cols row) ≡ size → (b : Bool) → nat_lt 900 size ≡ b → cond {A = Option ℕ} b (Some KEY_TOO_LONG) None ≡ None → length (key_bytes cols row) ≤ 900
     within size sized true is e = absurd (cc)
     within size sized false is e = grind (arith, nat_tests)
 

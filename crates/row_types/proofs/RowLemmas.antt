@@ -18,6 +18,7 @@ use Rattle.plain_model.specs.Sound.{are_distinct, is_column, has_place, is_defin
 use Rattle.plain_model.specs.Storing.{is_longer_than, lacks, overflows, some_cell, row_fault}
 use Rattle.row_fmt.specs.Rows.{IsOfKind, MayStand, FitsColumns}
 use Rattle.row_types.proofs.TypeLemmas.{IsKept, Keeps, of_some}
+use Rattle.plain_model.specs.declared.reply.TheConstants.Message.{NULL_VALUE, ROW_TOO_LONG, TEXT_TOO_LONG}
 
 -- a value for each column, as the column keeps it, of each of which R holds
 abbrev pub AreKept : (Value → Type 0) → List Column → List Value → Type 0
@@ -72,9 +73,9 @@ none_first false x rs e = (refl, e)
 -- a row that nothing refuses by itself
 pub row_fits : (R : Value → Type 0) (cols : List Column) (row : List Value) → AreKept R cols row → row_fault cols row ≡ None → FitsColumns cols row
 row_fits R cols row h e =
-    let long : List (Bool × ℕ) = (nat_lt 8060 (size_of_row row), 60015) ∷ [] in
-    let there = none_first (some_cell lacks cols row) 515 ((some_cell overflows cols row, 60014) ∷ long) e in
-    let short = none_first (some_cell overflows cols row) 60014 long there.1 in
+    let long : List (Bool × ℕ) = (nat_lt 8060 (size_of_row row), ROW_TOO_LONG) ∷ [] in
+    let there = none_first (some_cell lacks cols row) NULL_VALUE ((some_cell overflows cols row, TEXT_TOO_LONG) ∷ long) e in
+    let short = none_first (some_cell overflows cols row) TEXT_TOO_LONG long there.1 in
     row_stands R cols row h there.0 short.0
 
 -- ---- the columns of a table have different names

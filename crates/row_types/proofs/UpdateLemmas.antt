@@ -12,6 +12,7 @@ use Rattle.plain_model.specs.declared.expr.Expr.{Expr}
 use Rattle.plain_model.specs.declared.stmt.SetItem.{SetItem}
 use Rattle.plain_model.specs.declared.stmt.UpdateStmt.{UpdateStmt}
 use Rattle.plain_model.specs.declared.stmt.Stmt.TheVariants.{Update}
+use Rattle.plain_model.specs.declared.reply.TheConstants.Message.{KEY_UPDATE, NO_COLUMN, TYPE_CLASH}
 use Rattle.plain_model.specs.Cells.{cell, cell_at, place_of}
 use Rattle.plain_model.specs.Changing.{set_to, set_row, if_right, updated_row}
 use Rattle.plain_model.specs.Names.{is_unknown}
@@ -107,9 +108,9 @@ update_takes R held P u t sound fits each were fault =
     let ill_filter : Bool = is_ill_filter t.cols u.filter in
     let ill : Bool = not distinct || (not may || ill_filter) in
     let keys : Bool = list_any (λ (i : SetItem). is_key_name t.cols i.col) u.sets in
-    let known = none_first (list_any (λ (i : SetItem). is_unknown t.cols i.col || is_lost t.cols i.to) u.sets || is_lost_filter t.cols u.filter) 207 ((keys, 60012) ∷ (ill, 60013) ∷ []) fault in
-    let no_key = none_first keys 60012 ((ill, 60013) ∷ []) known.1 in
-    let well = or_parts (not distinct) (not may || ill_filter) (none_first ill 60013 [] no_key.1).0 in
+    let known = none_first (list_any (λ (i : SetItem). is_unknown t.cols i.col || is_lost t.cols i.to) u.sets || is_lost_filter t.cols u.filter) NO_COLUMN ((keys, KEY_UPDATE) ∷ (ill, TYPE_CLASH) ∷ []) fault in
+    let no_key = none_first keys KEY_UPDATE ((ill, TYPE_CLASH) ∷ []) known.1 in
+    let well = or_parts (not distinct) (not may || ill_filter) (none_first ill TYPE_CLASH [] no_key.1).0 in
     let stand = not_false may (or_parts (not may) ill_filter well.1).0 in
     let values = (and_parts (list_all (λ (i : SetItem). is_value_expr i.to) u.sets) (is_filter u.filter) sound).0 in
     let right : AreRight t.cols u.sets = record { distinct = definition_names t.cols fits.definition; firsts = definition_firsts t.cols fits.definition; stand = stand; values = values; no_key = no_key.0 } in

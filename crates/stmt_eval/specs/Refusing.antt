@@ -7,10 +7,11 @@ use Rattle.sql_eval.specs.declared.refusal.EvalRefusal.{EvalRefusal}
 use Rattle.sql_eval.specs.declared.refusal.EvalRefusal.TheVariants as eval
 use Rattle.stmt_eval.specs.declared.refusal.RowRefusal.{RowRefusal}
 use Rattle.stmt_eval.specs.declared.refusal.RowRefusal.TheVariants.{Refused, Memory}
+use Rattle.plain_model.specs.declared.reply.TheConstants.Message.{OVERFLOW}
 
--- an overflow is 8115
+-- an overflow is OVERFLOW
 abbrev pub from_eval : EvalRefusal → RowRefusal
-from_eval eval.Overflow = Refused 8115
+from_eval eval.Overflow = Refused OVERFLOW
 from_eval eval.Memory = Memory
 
 -- at a row of this place it stops with the message of its number, or for want of memory

@@ -16,7 +16,7 @@ use crate::refusal::{RowRefusal, Stop};
 use crate::rows::stop_at;
 use crate::storing::{kept_as, new_row_fault};
 use page_base::{Column, Columns, Name, NoMemory, Row, RowList, Value};
-use plain_model::{Expr, ExprList, ExprRows, Names};
+use plain_model::{Expr, ExprList, ExprRows, Message, Names};
 use sql_eval::{EvalRefusal, value};
 use std::alloc::Global;
 use std::collections::BTreeSet;
@@ -107,7 +107,11 @@ fn fault_among(cols: &[Column], keys: &BTreeSet<Row>, row: &Row, key: &Row) -> O
 {
     match new_row_fault(cols, row, key) {
         Some(number) => Some(number),
-        None => if keys.contains(key) { Some(2627) } else { None },
+        None => if keys.contains(key) {
+            Some(Message::KEY_IS_THERE)
+        } else {
+            None
+        },
     }
 }
 

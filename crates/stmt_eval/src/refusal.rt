@@ -47,7 +47,7 @@ impl From<EvalRefusal> for RowRefusal {
 
     fn from(why: EvalRefusal) -> Self {
         match why {
-            EvalRefusal::Overflow => RowRefusal::Refused(8115),
+            EvalRefusal::Overflow => RowRefusal::Refused(Message::OVERFLOW),
             EvalRefusal::Memory => RowRefusal::Memory,
         }
     }

@@ -44,12 +44,12 @@ fn fault_of_insert(
 }
 
 /// The first refusal that a statement's shape gives over a table of these columns, None where the statement suits it:
-/// 2714 for CREATE TABLE, 207, 60012 and 60013 for a statement about rows.
+/// `TABLE_IS_THERE` for CREATE TABLE, `NO_COLUMN`, `KEY_UPDATE` and `TYPE_CLASH` for a statement about rows.
 pub fn shape_of(alloc: Global, stmt: &Stmt, cols: &Columns) -> Result<Option<Message>, NoMemory>
     ensures { IfOk result (λ message. (t : Table) → t.cols ≡ cols.now → message ≡ shape_over stmt.now (Some t)) }
 {
     match stmt {
-        Stmt::CreateTable(_, _) => Ok(Some(plain(2714))),
+        Stmt::CreateTable(_, _) => Ok(Some(plain(Message::TABLE_IS_THERE))),
         Stmt::Insert(insert) => Ok(refusal(fault_of_insert(alloc, insert, cols)?)),
         Stmt::Select(select) => Ok(refusal(select_fault(select, cols))),
         Stmt::Update(update) => Ok(refusal(update_fault(update, cols))),

@@ -13,8 +13,8 @@ ghost use Rattle.plain_model.specs.Sound.{are_distinct};
 
 use page_base::{Columns, Name, NoMemory};
 use plain_model::{
-    DeleteStmt, Expr, ExprType, InsertStmt, Items, Names, OrderItem, SelectStmt, SetItem, Sum,
-    UpdateStmt,
+    DeleteStmt, Expr, ExprType, InsertStmt, Items, Message, Names, OrderItem, SelectStmt, SetItem,
+    Sum, UpdateStmt,
 };
 use sql_eval::{column_type, comparison_type, first_unknown, place_of, tree_type};
 use std::alloc::Global;
@@ -245,15 +245,15 @@ fn is_lost_select(stmt: &SelectStmt, cols: &Columns) -> bool
         || has_unknown_order(cols, stmt.order.as_slice())
 }
 
-/// What in a SELECT doesn't suit these columns: 207 for a name, 60013 for a type.
+/// What in a SELECT doesn't suit these columns: `NO_COLUMN` for a name, `TYPE_CLASH` for a type.
 pub(crate) fn select_fault(stmt: &SelectStmt, cols: &Columns) -> Option<u32>
     ensures { result ≡ select_fault stmt.now cols.now }
 {
     let ill = are_ill(cols, &stmt.items) || is_ill_filter(cols, &stmt.filter);
     if is_lost_select(stmt, cols) {
-        return Some(207);
+        return Some(Message::NO_COLUMN);
     }
-    if ill { Some(60013) } else { None }
+    if ill { Some(Message::TYPE_CLASH) } else { None }
 }
 
 // Whether each list of values suits the names.
@@ -278,8 +278,8 @@ fn is_lost_insert(stmt: &InsertStmt, cols: &Columns) -> bool
         .any(|name| is_unknown(cols, name))
 }
 
-/// What in an INSERT doesn't suit these columns: 207 for a name, 60013 for a column named twice and for a list of
-/// values that doesn't suit its columns. `names` are the columns that get values.
+/// What in an INSERT doesn't suit these columns: `NO_COLUMN` for a name, `TYPE_CLASH` for a column named twice and
+/// for a list of values that doesn't suit its columns. `names` are the columns that get values.
 pub(crate) fn insert_fault(
     alloc: Global,
     stmt: &InsertStmt,
@@ -292,10 +292,10 @@ pub(crate) fn insert_fault(
     let distinct = are_distinct(stmt.cols.as_slice());
     let right = are_lists_right(alloc, stmt, names, cols);
     if is_lost_insert(stmt, cols) {
-        return Some(207);
+        return Some(Message::NO_COLUMN);
     }
     if !distinct || !right {
-        Some(60013)
+        Some(Message::TYPE_CLASH)
     } else {
         None
     }
@@ -346,8 +346,8 @@ fn may_all_set(stmt: &UpdateStmt, cols: &Columns) -> bool
     stmt.sets.as_slice().iter().all(|set| may_set(cols, set))
 }
 
-/// What in an UPDATE doesn't suit these columns: 207 for a name, 60012 for a column of the key, 60013 for a column set
-/// twice and for a type.
+/// What in an UPDATE doesn't suit these columns: `NO_COLUMN` for a name, `KEY_UPDATE` for a column of the key, `TYPE_CLASH` for
+/// a column set twice and for a type.
 pub(crate) fn update_fault(stmt: &UpdateStmt, cols: &Columns) -> Option<u32>
     ensures { result ≡ update_fault stmt.now cols.now }
 {
@@ -355,27 +355,27 @@ pub(crate) fn update_fault(stmt: &UpdateStmt, cols: &Columns) -> Option<u32>
     let right = may_all_set(stmt, cols);
     let ill = is_ill_filter(cols, &stmt.filter);
     if is_lost_update(stmt, cols) {
-        return Some(207);
+        return Some(Message::NO_COLUMN);
     }
     if sets_key(stmt, cols) {
-        return Some(60012);
+        return Some(Message::KEY_UPDATE);
     }
     if !distinct || !right || ill {
-        Some(60013)
+        Some(Message::TYPE_CLASH)
     } else {
         None
     }
 }
 
-/// What in a DELETE doesn't suit these columns: 207 for a name, 60013 for a type.
+/// What in a DELETE doesn't suit these columns: `NO_COLUMN` for a name, `TYPE_CLASH` for a type.
 pub(crate) fn delete_fault(stmt: &DeleteStmt, cols: &Columns) -> Option<u32>
     ensures { result ≡ delete_fault stmt.now cols.now }
 {
     if is_lost_filter(cols, &stmt.filter) {
-        return Some(207);
+        return Some(Message::NO_COLUMN);
     }
     if is_ill_filter(cols, &stmt.filter) {
-        return Some(60013);
+        return Some(Message::TYPE_CLASH);
     }
     None
 }

@@ -22,7 +22,9 @@ use crate::shapes::target_names;
 use crate::totals::{Summing, aggregates};
 use crate::{Effect, Verdict};
 use page_base::{Columns, NoMemory, Row, RowList};
-use plain_model::{DeleteStmt, InsertStmt, Items, Reply, SelectStmt, Stmt, SumList, UpdateStmt};
+use plain_model::{
+    DeleteStmt, InsertStmt, Items, Message, Reply, SelectStmt, Stmt, SumList, UpdateStmt,
+};
 use std::alloc::Global;
 
 // Nothing changes, and this is the reply.
@@ -138,12 +140,12 @@ fn rows_reply(
     }
 }
 
-// The row of aggregates, or 8115 where one is outside its type.
+// The row of aggregates, or OVERFLOW where one is outside its type.
 fn totals_row(alloc: Global, values: Option<Row>) -> Result<Reply, NoMemory>
     ensures { IfOk result (λ reply. reply ≡ totals_row values) }
 {
     let Some(values) = values else {
-        return Ok(Reply::Msg(at_place(8115, 0)));
+        return Ok(Reply::Msg(at_place(Message::OVERFLOW, 0)));
     };
     let mut rows = RowList::new(alloc);
     rows.push(shown_row(alloc, &values)?)?;

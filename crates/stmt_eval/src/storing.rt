@@ -5,7 +5,8 @@ ghost use Rattle.plain_model.specs.Sizes.{size_of_value, size_of_values, size_of
 ghost use Rattle.plain_model.specs.Storing.{kept_as, is_null, lacks, is_longer_than, overflows, some_cell, row_fault, key_fault, new_row_fault};
 ghost use Rattle.plain_model.specs.Tables.{key_of};
 
-use page_base::{ColType, Column, Row, Value};
+use page_base::{ColType, Column, MAX_KEY_BYTES, MAX_ROW_BYTES, Row, Value};
+use plain_model::Message;
 use sql_eval::{number_in, stored};
 
 /// The value as a column of this type keeps it; None is a number that INT doesn't hold.
@@ -103,31 +104,31 @@ fn row_fits(limit: usize, row: &Row) -> bool
     }
 }
 
-/// What refuses a row by itself: 515 for a NULL where none may stand, 60014 for a text longer than its column, 60015
-/// for more than 8,060 bytes.
+/// What refuses a row by itself: `NULL_VALUE` for a NULL where none may stand, `TEXT_TOO_LONG` for a text longer than
+/// its column, `ROW_TOO_LONG` for more than 8,060 bytes.
 pub(crate) fn row_fault(cols: &[Column], row: &Row) -> Option<u32>
     ensures { result ≡ row_fault cols.now row.now }
 {
     if some_lacks(cols, row.as_slice()) {
-        return Some(515);
+        return Some(Message::NULL_VALUE);
     }
     if some_overflows(cols, row.as_slice()) {
-        return Some(60014);
+        return Some(Message::TEXT_TOO_LONG);
     }
-    if !row_fits(8060, row) {
-        return Some(60015);
+    if !row_fits(MAX_ROW_BYTES, row) {
+        return Some(Message::ROW_TOO_LONG);
     }
     None
 }
 
-/// What refuses a new row of this key by itself: first as a row, then 60017 for a key of more than 900 bytes.
+/// What refuses a new row of this key by itself: first as a row, then `KEY_TOO_LONG` for a key of more than 900 bytes.
 pub(crate) fn new_row_fault(cols: &[Column], row: &Row, key: &Row) -> Option<u32>
     requires { key.now ≡ key_of cols.now row.now }
     ensures { result ≡ new_row_fault cols.now row.now }
 {
     match row_fault(cols, row) {
         Some(number) => Some(number),
-        None if !fit(900, key.as_slice()) => Some(60017),
+        None if !fit(MAX_KEY_BYTES, key.as_slice()) => Some(Message::KEY_TOO_LONG),
         None => None,
     }
 }

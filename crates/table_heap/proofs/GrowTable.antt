@@ -100,7 +100,7 @@ grown cols at other owns root old rows claimed n made t free g =
         let walk : IsWalk heap_kids other (first root) done [] = walk_of other root (roots ++ rs) (leaves ++ ls) grows.heap in
         let gathered : cells other done ≡ map row_bytes (all_rows made) = cells-leaves other done ∙ ap all_cells slots ∙ cells_made cols made g.may in
         record {
-          table = (done, record { walk = walk; owned = grows.owned; gathers = subst (λ xs. Gathers cols xs rows) (sym gathered) (gathers_rows cols (all_rows made) rows g.may g.keys) });
+          table = (done, record { walk = walk; owned = grows.owned; gathers = subst (λ xs. Gathers cols xs rows) (sym gathered) (gathers_rows cols (all_rows made) rows g.may g.keys) }, refl);
           has = record { done = done; walk = walk; slots = leaf_slots-map other done ∙ slots; rows = g.may };
           done = done;
           walk = walk;

@@ -33,6 +33,7 @@ use Rattle.table_heap.proofs.GrowRows.{LeavesOf, leaves_of, has_leaves_one}
 use Rattle.table_heap.proofs.GrowTable.{Grows, grown, LastRoot, last_root, root_length}
 use Rattle.table_heap.proofs.InTurn.{AreApartEdits}
 use Rattle.table_heap.proofs.LeafLemmas.{planned_rows}
+use Rattle.table_heap.proofs.NumberLemmas.{numbers_below}
 use Rattle.table_heap.proofs.PlanningLemmas.{look_none, last_or_end, Counted, last_counted, pages_read, slots_are_read}
 use Rattle.table_heap.proofs.PutLemmas.{planned_all, planned_length}
 use Rattle.table_heap.proofs.ShapeLemmas.{IsWalkOf, heap_of, leaves_in-visits, roots_in-visits}
@@ -198,4 +199,5 @@ module _ (cols : List Column) (seen : List Looked) (root : PageId) (cut put : Li
         let is : d.later ≡ later = walks-one heap_kids (after claimed at edits) (first root ∷ []) d.later later d.walk.walks walk_later.walks in
         subst (λ vs. AreClaimed claimed n before vs) is (subst (λ vs. AreClaimed claimed n vs d.later) was d.claims);
     once = λ at owns rows claimed t shows free. (all_done at owns rows claimed t shows free).once;
+    numbers = numbers_below seen root done places news n edits p;
   }

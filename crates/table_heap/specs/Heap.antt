@@ -1,5 +1,5 @@
 -- A heap: root pages that name leaves, 1,000 on each before the next, and leaves with a row in each slot that isn't empty.
-use Rattle.std.specs.Prelude.{Bool, ◌==◌, nat_lt, Option, None, Some, Result, Ok, Err, if◌then◌else◌, ℕ, ◌+◌, List, [], ◌∷◌, ◌++◌, length, drop, slice_index_or}
+use Rattle.std.specs.Prelude.{Bool, true, ◌==◌, nat_lt, Option, None, Some, Result, Ok, Err, if◌then◌else◌, ℕ, ◌+◌, List, [], ◌∷◌, ◌++◌, length, drop, slice_index_or}
 use Rattle.page_base.specs.declared.column.Column.{Column}
 use Rattle.page_base.specs.declared.numbers.PageId.{PageId}
 use Rattle.page_fmt.specs.Seen.{SlotsAt}
@@ -7,7 +7,7 @@ use Rattle.plain_model.specs.Tables.{Rows}
 use Rattle.table_walk.specs.declared.visit.Visit.{Visit}
 use Rattle.table_walk.specs.Addresses.{page_at, names_none}
 use Rattle.table_walk.specs.Walk.{Kids}
-use Rattle.table_walk.specs.Tables.{is_leaf, HasRows}
+use Rattle.table_walk.specs.Tables.{is_leaf, Shape, HasRows}
 
 -- one leaf more in front
 abbrev pub before : Visit → Result (List Visit) ℕ → Result (List Visit) ℕ
@@ -52,10 +52,14 @@ root_kids from slots =
 abbrev pub heap_kids : Kids
 heap_kids v slots = if is_leaf v then Ok [] else root_kids v.page slots
 
+-- a heap keeps nothing beside its walk and its rows
+abbrev pub heap_shape : Shape
+heap_shape = record { kids = heap_kids; keeps = λ cols start at. true }
+
 -- the visit of the first root page
 abbrev pub first : PageId → Visit
 first root = record { page = root; from = root; slot = 0; level = Some 1 }
 
 -- the rows of the heap with this root, over the pages that it owns
 abbrev pub RowsAt : List Column → SlotsAt → (PageId → Bool) → PageId → Rows → Type 0
-RowsAt cols at owns root rows = HasRows heap_kids cols at owns (first root) rows
+RowsAt cols at owns root rows = HasRows heap_shape cols at owns (first root) rows

@@ -10,3 +10,4 @@ pub mod PlanLemmas
 pub mod AddressLemmas
 pub mod IndexLemmas
 pub mod EditLemmas
+pub mod ClaimLemmas

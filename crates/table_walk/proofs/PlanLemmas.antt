@@ -9,7 +9,7 @@ use Rattle.page_fmt.specs.Spelling.{used}
 use Rattle.plain_model.specs.Tables.{Rows}
 use Rattle.table_walk.specs.declared.plan.Edit.{Edit}
 use Rattle.table_walk.specs.declared.visit.Visit.{Visit}
-use Rattle.table_walk.specs.Walk.{Kids}
+use Rattle.table_walk.specs.Tables.{Shape}
 use Rattle.table_walk.specs.Plans.{place, bytes_of, slots_after, changed, after, Fits, Go, also, AreWithin, Carries}
 use Rattle.table_walk.proofs.TableLemmas.{table_same}
 
@@ -42,14 +42,14 @@ module _ (claimed : ℕ → PageId) (n : ℕ) (owns : PageId → Bool) where
   after_same at other [] same within = same
   after_same at other (e ∷ es) same within = after_same (changed claimed at e) (changed claimed other e) es (agree_changed at other e same within.0) within.1
 
-pub carries_same : (kids : Kids) (cols : List Column) (start : Visit) (claimed : ℕ → PageId) (n : ℕ) (at other : SlotsAt) (owns : PageId → Bool) (edits : List Edit) (rows : Rows) → ((p : PageId) → also owns claimed n p ≡ true → at p ≡ other p)
-    → Carries kids cols start claimed n at owns edits rows → Carries kids cols start claimed n other owns edits rows
-carries_same kids cols start claimed n at other owns edits rows same c = record {
+pub carries_same : (shape : Shape) (cols : List Column) (start : Visit) (claimed : ℕ → PageId) (n : ℕ) (at other : SlotsAt) (owns : PageId → Bool) (edits : List Edit) (rows : Rows) → ((p : PageId) → also owns claimed n p ≡ true → at p ≡ other p)
+    → Carries shape cols start claimed n at owns edits rows → Carries shape cols start claimed n other owns edits rows
+carries_same shape cols start claimed n at other owns edits rows same c = record {
   go = go_same claimed n owns at other edits same c.within c.go;
   within = c.within;
-  table = table_same kids cols (after claimed at edits) (after claimed other edits) (also owns claimed n) start rows (after_same claimed n owns at other edits same c.within) c.table;
+  table = table_same shape cols (after claimed at edits) (after claimed other edits) (also owns claimed n) start rows (after_same claimed n owns at other edits same c.within) c.table;
 }
 
-pub carries_on : (kids : Kids) (cols : List Column) (start : Visit) (claimed : ℕ → PageId) (n : ℕ) (at : SlotsAt) (owns : PageId → Bool) (e : Edit) (edits : List Edit) (rows : Rows) → Carries kids cols start claimed n at owns (e ∷ edits) rows
-    → Carries kids cols start claimed n (changed claimed at e) owns edits rows
-carries_on kids cols start claimed n at owns e edits rows c = record { go = c.go.1; within = c.within.1; table = c.table }
+pub carries_on : (shape : Shape) (cols : List Column) (start : Visit) (claimed : ℕ → PageId) (n : ℕ) (at : SlotsAt) (owns : PageId → Bool) (e : Edit) (edits : List Edit) (rows : Rows) → Carries shape cols start claimed n at owns (e ∷ edits) rows
+    → Carries shape cols start claimed n (changed claimed at e) owns edits rows
+carries_on shape cols start claimed n at owns e edits rows c = record { go = c.go.1; within = c.within.1; table = c.table }

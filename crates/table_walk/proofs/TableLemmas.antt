@@ -11,7 +11,7 @@ use Rattle.table_walk.specs.declared.find.Wants.{Wants}
 use Rattle.table_walk.specs.declared.find.Wants.TheVariants.{Page, Done}
 use Rattle.table_walk.specs.declared.visit.Visit.{Visit}
 use Rattle.table_walk.specs.Walk.{Kids, IsSeenWalk, Lacks, IsBad}
-use Rattle.table_walk.specs.Tables.{Gathers, AreRows, IsNoRowOf, HasRows, IsBadRow, IsSomeRow, full, cells, cells_of, is_leaf}
+use Rattle.table_walk.specs.Tables.{Shape, shown, Gathers, AreRows, IsNoRowOf, HasRows, IsBadRow, IsSomeRow, full, cells, cells_of, is_leaf}
 use Rattle.table_walk.specs.Answers.{IsAt, IsMemory, Tells, OfPage}
 use Rattle.table_walk.proofs.GatherLemmas.{gathered_are, gathers_one, AreRows-parts}
 use Rattle.table_walk.proofs.WalkLemmas.{is_ahead, is_all, never_bad, walks-same, walks-one}
@@ -37,32 +37,32 @@ leaf_row cols at (v ∷ vs) zero d i a h leaf lt some =
 leaf_row cols at (v ∷ vs) (suc k) d i a h leaf lt some =
     let parts = AreRows-parts cols (cells_of at v) (cells at vs) a in leaf_row cols at vs k d i parts.1 (omega arith) leaf lt some
 
-module _ (kids : Kids) (cols : List Column) (at : SlotsAt) (owns : PageId → Bool) (start : Visit) (all : Rows) (seen : List Looked) (t : HasRows kids cols at owns start all) where
+module _ (shape : Shape) (cols : List Column) (at : SlotsAt) (owns : PageId → Bool) (start : Visit) (all : Rows) (seen : List Looked) (t : HasRows shape cols at owns start all) where
   -- the page that comes next is one of the table's
-  pub owned_next : (v : Visit) (p : PageId) → Shows seen at → Lacks kids seen start v → v.page ≡ p → owns p ≡ true
+  pub owned_next : (v : Visit) (p : PageId) → Shows seen at → Lacks shape.kids seen start v → v.page ≡ p → owns p ≡ true
   owned_next v p shows lacks e =
-      let a = is_ahead kids seen at start v t.0 shows t.1.walk lacks in
+      let a = is_ahead shape.kids seen at start v t.0 shows t.1.walk lacks in
       (t.1.owned p).1 (a.0, a.1, a.2, a.3, ap (λ (x : Visit). x.page) a.4 ∙ e)
 
-  pub owned_wants : (w : Wants) → Shows seen at → Tells kids seen start w → OfPage (λ p. owns p ≡ true) w
+  pub owned_wants : (w : Wants) → Shows seen at → Tells shape.kids seen start w → OfPage (λ p. owns p ≡ true) w
   owned_wants (Page p rows) shows tells = owned_next tells.visit p shows tells.lacks tells.is
   owned_wants Done shows tells = tt
 
-  pub table_not_bad : (e : SeenRefusal) → Shows seen at → IsAt (IsBad kids seen start) e → IsMemory e
-  table_not_bad (Damaged p slot) shows bad = absurd (never_bad kids seen at start t.0 p slot shows t.1.walk bad)
+  pub table_not_bad : (e : SeenRefusal) → Shows seen at → IsAt (IsBad shape.kids seen start) e → IsMemory e
+  table_not_bad (Damaged p slot) shows bad = absurd (never_bad shape.kids seen at start t.0 p slot shows t.1.walk bad)
   table_not_bad Memory shows bad = tt
 
   -- what was read gives the table's rows
-  pub table_gathers : (done : List Visit) → Shows seen at → IsSeenWalk kids seen start done [] → Gathers cols (cells (look seen) done) all
+  pub table_gathers : (done : List Visit) → Shows seen at → IsSeenWalk shape.kids seen start done [] → Gathers cols (cells (look seen) done) all
   table_gathers done shows w =
       let same : cells (look seen) done ≡ cells at t.0 =
-      cells-same (look seen) at done (λ k d lt. shows (get_or done k d).page (w.were k d lt)) ∙ ap (cells at) (is_all kids seen at start done t.0 shows w t.1.walk) in
+      cells-same (look seen) at done (λ k d lt. shows (get_or done k d).page (w.were k d lt)) ∙ ap (cells at) (is_all shape.kids seen at start done t.0 shows w t.1.walk) in
       subst (λ cs. Gathers cols cs all) (sym same) t.1.gathers
 
-  no_bad_row : (p : PageId) (slot : ℕ) → Shows seen at → ¬ IsBadRow kids cols seen start p slot
+  no_bad_row : (p : PageId) (slot : ℕ) → Shows seen at → ¬ IsBadRow shape.kids cols seen start p slot
   no_bad_row p slot shows bad =
       let done : List Visit = bad.0 in
-      let same : done ≡ t.0 = is_all kids seen at start done t.0 shows bad.1 t.1.walk in
+      let same : done ≡ t.0 = is_all shape.kids seen at start done t.0 shows bad.1 t.1.walk in
       let are : AreRows cols (cells at done) = subst (λ vs. AreRows cols (cells at vs)) (sym same) (gathered_are cols (cells at t.0) all t.1.gathers) in
       let k : ℕ = bad.2.0 in
       let v : Visit = bad.2.1 in
@@ -73,24 +73,29 @@ module _ (kids : Kids) (cols : List Column) (at : SlotsAt) (owns : PageId → Bo
       wrong.no.wrong (subst (λ (xs : List (List ℕ)). IsSomeRow cols (get_or xs slot [])) (sym read)
       (leaf_row cols at done k v slot are lt (ap is_leaf here ∙ wrong.leaf) (subst (λ (xs : List (List ℕ)). slot < length xs) read wrong.no.there) (subst (λ (xs : List (List ℕ)). get_or xs slot [] ≢ []) read wrong.no.some)))
 
-  pub table_no_bad_row : (e : SeenRefusal) → Shows seen at → IsAt (IsBadRow kids cols seen start) e → IsMemory e
+  pub table_no_bad_row : (e : SeenRefusal) → Shows seen at → IsAt (IsBadRow shape.kids cols seen start) e → IsMemory e
   table_no_bad_row (Damaged p slot) shows bad = absurd (no_bad_row p slot shows bad)
   table_no_bad_row Memory shows bad = tt
 
+pub shown-same : (at other : SlotsAt) (done : List Visit) → ((k : ℕ) (d : Visit) → k < length done → at (get_or done k d).page ≡ other (get_or done k d).page) → shown at done ≡ shown other done
+shown-same at other [] same = refl
+shown-same at other (v ∷ vs) same = λ i. record { page = v.page; slots = same 0 v (omega arith) i } ∷ shown-same at other vs (λ k d lt. same (suc k) d (omega arith)) i
+
 -- FRAME: a table depends only on the pages that it owns
-pub table_same : (kids : Kids) (cols : List Column) (at other : SlotsAt) (owns : PageId → Bool) (start : Visit) (all : Rows) → ((p : PageId) → owns p ≡ true → at p ≡ other p) → HasRows kids cols at owns start all → HasRows kids cols other owns start all
-table_same kids cols at other owns start all same t =
+pub table_same : (shape : Shape) (cols : List Column) (at other : SlotsAt) (owns : PageId → Bool) (start : Visit) (all : Rows) → ((p : PageId) → owns p ≡ true → at p ≡ other p) → HasRows shape cols at owns start all → HasRows shape cols other owns start all
+table_same shape cols at other owns start all same t =
     let here : (k : ℕ) (d : Visit) → k < length t.0 → at (get_or t.0 k d).page ≡ other (get_or t.0 k d).page = λ k d lt. same (get_or t.0 k d).page ((t.1.owned (get_or t.0 k d).page).1 (k, get_or t.0 k d, lt, get_or_default t.0 k (get_or t.0 k d) d lt, refl)) in (
       t.0,
       record {
-        walk = record { walks = walks-same kids at other (start ∷ []) t.0 [] here t.1.walk.walks; once = t.1.walk.once };
+        walk = record { walks = walks-same shape.kids at other (start ∷ []) t.0 [] here t.1.walk.walks; once = t.1.walk.once };
         owned = t.1.owned;
         gathers = subst (λ cs. Gathers cols cs all) (cells-same at other t.0 here) t.1.gathers;
       },
+      subst (λ l. shape.keeps cols start (look l) ≡ true) (shown-same at other t.0 here) t.2,
     )
 
 -- its rows are one map
-pub table_one : (kids : Kids) (cols : List Column) (at : SlotsAt) (owns also : PageId → Bool) (start : Visit) (all other : Rows) → HasRows kids cols at owns start all → HasRows kids cols at also start other → all ≡ other
-table_one kids cols at owns also start all other t u =
-    let same : t.0 ≡ u.0 = walks-one kids at (start ∷ []) t.0 u.0 t.1.walk.walks u.1.walk.walks in
+pub table_one : (shape : Shape) (cols : List Column) (at : SlotsAt) (owns also : PageId → Bool) (start : Visit) (all other : Rows) → HasRows shape cols at owns start all → HasRows shape cols at also start other → all ≡ other
+table_one shape cols at owns also start all other t u =
+    let same : t.0 ≡ u.0 = walks-one shape.kids at (start ∷ []) t.0 u.0 t.1.walk.walks u.1.walk.walks in
     gathers_one cols (cells at u.0) all other (subst (λ vs. Gathers cols (cells at vs) all) same t.1.gathers) u.1.gathers

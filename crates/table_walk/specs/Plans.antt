@@ -1,6 +1,7 @@
 -- A plan: edits of slots, done in turn, of pages that the table owns and of pages that it claims.
 use Rattle.std.specs.Prelude.{Bool, false, true, Option, None, Some, ◌≡◌, ◌≢◌, ◌||◌, ℕ, zero, suc, ◌<◌, ◌≤◌, List, [], ◌∷◌, ◌++◌, length}
 use Rattle.std.specs.FinMap as finite
+use Rattle.page_base.specs.declared.limits.TheConstants.{MAX_SLOTS, MAX_SLOT_BYTES}
 use Rattle.page_base.specs.declared.column.Column.{Column}
 use Rattle.page_base.specs.declared.numbers.PageId.{PageId}
 use Rattle.page_base.specs.declared.value.Value.{Value}
@@ -14,8 +15,7 @@ use Rattle.table_walk.specs.declared.plan.Spot.{Spot}
 use Rattle.table_walk.specs.declared.plan.Spot.TheVariants.{Old, New}
 use Rattle.table_walk.specs.declared.visit.Visit.{Visit}
 use Rattle.table_walk.specs.Addresses.{address, IsTarget}
-use Rattle.table_walk.specs.Walk.{Kids}
-use Rattle.table_walk.specs.Tables.{HasRows}
+use Rattle.table_walk.specs.Tables.{Shape, HasRows}
 
 -- the page of an edit, where these pages are claimed
 abbrev pub place : (ℕ → PageId) → Spot → PageId
@@ -46,8 +46,8 @@ after claimed at (e ∷ es) = after claimed (changed claimed at e) es
 
 -- an edit fits on its page, and changes its slot
 pub record Fits (claimed : ℕ → PageId) (at : SlotsAt) (e : Edit) : Type 0 where
-  pub index : e.slot < 4048
-  pub short : length (bytes_of claimed e) ≤ 8094
+  pub index : e.slot < MAX_SLOTS
+  pub short : length (bytes_of claimed e) ≤ MAX_SLOT_BYTES
   pub room : used (slots_after claimed at e) ≤ 8192
   pub changes : slot_at (at (place claimed e.spot)) e.slot ≢ bytes_of claimed e
 
@@ -64,6 +64,20 @@ is_claimed claimed (suc n) p = is_page (claimed n) p || is_claimed claimed n p
 -- whether the table owns a page once these are claimed
 abbrev pub also : (PageId → Bool) → (ℕ → PageId) → ℕ → PageId → Bool
 also owns claimed n p = owns p || is_claimed claimed n p
+
+-- where an edit is of a claimed page, it is of one of the first n
+abbrev pub SpotBelow : ℕ → Spot → Type 0
+SpotBelow n (Old p) = Unit {0}
+SpotBelow n (New i) = i < n
+
+-- where an edit names a claimed page, it names one of the first n
+abbrev pub NameBelow : ℕ → Option ℕ → Type 0
+NameBelow n None = Unit {0}
+NameBelow n (Some i) = i < n
+
+-- an edit speaks of the first n claimed pages alone
+abbrev pub IsBelow : ℕ → Edit → Type 0
+IsBelow n e = SpotBelow n e.spot × NameBelow n e.names
 
 -- each edit lies on such a page
 abbrev pub AreWithin : (ℕ → PageId) → ℕ → (PageId → Bool) → List Edit → Type 0
@@ -89,7 +103,7 @@ put_all cols (r ∷ rs) rows = put_all cols rs (finite.insert rows (key_of cols 
 
 -- The edits to come go in turn, on pages of the table alone, and then these are its rows. This is all that anyone above
 -- the layouts needs to know of a plan.
-pub record Carries (kids : Kids) (cols : List Column) (start : Visit) (claimed : ℕ → PageId) (n : ℕ) (at : SlotsAt) (owns : PageId → Bool) (edits : List Edit) (rows : Rows) : Type 0 where
+pub record Carries (shape : Shape) (cols : List Column) (start : Visit) (claimed : ℕ → PageId) (n : ℕ) (at : SlotsAt) (owns : PageId → Bool) (edits : List Edit) (rows : Rows) : Type 0 where
   pub go : Go claimed at edits
   pub within : AreWithin claimed n owns edits
-  pub table : HasRows kids cols (after claimed at edits) (also owns claimed n) start rows
+  pub table : HasRows shape cols (after claimed at edits) (also owns claimed n) start rows

@@ -3,6 +3,7 @@ use Rattle.std.specs.Prelude.{Bool, true, false, Option, None, Some, if◌then�
 use Rattle.std.specs.List.{Any}
 use Rattle.std.specs.FinMap as finite
 use Rattle.page_base.specs.declared.column.Column.{Column}
+use Rattle.page_base.specs.declared.limits.TheConstants.{MAX_ROW_BYTES, MAX_KEY_BYTES}
 use Rattle.page_base.specs.declared.numbers.PageId.{PageId}
 use Rattle.page_base.specs.declared.value.Value.{Value}
 use Rattle.page_fmt.specs.Seen.{SlotsAt, Looked, look}
@@ -39,8 +40,8 @@ cells at (v ∷ vs) = cells_of at v ++ cells at vs
 
 -- a row within the limits: 8,060 bytes, and 900 bytes of key
 pub record IsSmall (cols : List Column) (row : List Value) : Type 0 where
-  pub bytes : length (row_bytes row) ≤ 8060
-  pub key : length (key_bytes cols row) ≤ 900
+  pub bytes : length (row_bytes row) ≤ MAX_ROW_BYTES
+  pub key : length (key_bytes cols row) ≤ MAX_KEY_BYTES
 
 -- the rows that these cells spell, by their keys: each cell is a row within the limits, and no two have one key
 abbrev pub Gathers : List Column → List (List ℕ) → Rows → Type 0
@@ -55,9 +56,19 @@ pub record IsTable (kids : Kids) (cols : List Column) (at : SlotsAt) (owns : Pag
   pub owned : (p : PageId) → (owns p ≡ true) ↔ Reaches done p
   pub gathers : Gathers cols (cells at done) rows
 
--- the pages that are owned are a table of these rows
-abbrev pub HasRows : Kids → List Column → SlotsAt → (PageId → Bool) → Visit → Rows → Type 0
-HasRows kids cols at owns start rows = (done : List Visit) × IsTable kids cols at owns start rows done
+-- a layout: what a page names, and what else a table from a visit on keeps
+pub record Shape : Type 0 where
+  pub kids : Kids
+  pub keeps : List Column → Visit → SlotsAt → Bool
+
+-- the pages of a walk, as they stand
+abbrev pub shown : SlotsAt → List Visit → List Looked
+shown at [] = []
+shown at (v ∷ vs) = record { page = v.page; slots = at v.page } ∷ shown at vs
+
+-- the pages that are owned are a table of these rows, and keep what its layout says, of which they alone are seen
+abbrev pub HasRows : Shape → List Column → SlotsAt → (PageId → Bool) → Visit → Rows → Type 0
+HasRows shape cols at owns start rows = (done : List Visit) × IsTable shape.kids cols at owns start rows done × (shape.keeps cols start (look (shown at done)) ≡ true)
 
 -- this cell is a row
 abbrev pub IsSomeRow : List Column → List ℕ → Type 0

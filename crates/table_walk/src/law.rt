@@ -1,6 +1,7 @@
 //! What tables of pages keep, as functions whose contracts say it.
 
-ghost use Rattle.std.specs.Prelude.{◌≡◌, ◌∷◌, [], true, ℕ, Bool, List, Some};
+ghost use Rattle.std.specs.Prelude.{◌≡◌, ◌<◌, ◌∷◌, [], true, ℕ, Bool, List, Some};
+ghost use Rattle.std.specs.List.{All};
 ghost use Rattle.page_base.specs.declared.column.Column.{Column};
 ghost use Rattle.page_base.specs.declared.numbers.PageId.{PageId};
 ghost use Rattle.page_fmt.specs.Seen.{SlotsAt};
@@ -8,30 +9,34 @@ ghost use Rattle.plain_model.specs.Tables.{Rows};
 ghost use Rattle.table_walk.specs.declared.plan.Edit.{Edit};
 ghost use Rattle.table_walk.specs.declared.visit.Visit.{Visit};
 ghost use Rattle.table_walk.specs.Addresses.{address, page_at, IsTarget};
-ghost use Rattle.table_walk.specs.Plans.{place, changed, Fits, also, Carries};
-ghost use Rattle.table_walk.specs.Walk.{Kids};
-ghost use Rattle.table_walk.specs.Tables.{HasRows};
+ghost use Rattle.table_walk.specs.Plans.{place, changed, Fits, also, IsBelow, Carries};
+ghost use Rattle.table_walk.specs.Tables.{Shape, HasRows};
 
 /// The rows of pages are one map, whichever pages are said to be owned.
 pub fn rows_are_one()
-    ensures { (kids : Kids) (cols : List Column) (at : SlotsAt) (owns also : PageId → Bool) (start : Visit) (rows other : Rows) → HasRows kids cols at owns start rows → HasRows kids cols at also start other → rows ≡ other }
+    ensures { (shape : Shape) (cols : List Column) (at : SlotsAt) (owns also : PageId → Bool) (start : Visit) (rows other : Rows) → HasRows shape cols at owns start rows → HasRows shape cols at also start other → rows ≡ other }
 {}
 
 /// The rows depend only on which pages are owned, and on what stands on these.
 pub fn rows_depend_on_owned_pages()
-    ensures { (kids : Kids) (cols : List Column) (at other : SlotsAt) (owns : PageId → Bool) (start : Visit) (rows : Rows) → ((p : PageId) → owns p ≡ true → at p ≡ other p) → HasRows kids cols at owns start rows → HasRows kids cols other owns start rows }
+    ensures { (shape : Shape) (cols : List Column) (at other : SlotsAt) (owns : PageId → Bool) (start : Visit) (rows : Rows) → ((p : PageId) → owns p ≡ true → at p ≡ other p) → HasRows shape cols at owns start rows → HasRows shape cols other owns start rows }
 {}
 
 /// A plan depends only on pages that the table owns or claims: others may change the rest between its edits.
 pub fn plans_depend_on_owned_pages()
-    ensures { (kids : Kids) (cols : List Column) (start : Visit) (claimed : ℕ → PageId) (n : ℕ) (at other : SlotsAt) (owns : PageId → Bool) (edits : List Edit) (rows : Rows) → ((p : PageId) → also owns claimed n p ≡ true → at p ≡ other p) → Carries kids cols start claimed n at owns edits rows → Carries kids cols start claimed n other owns edits rows }
+    ensures { (shape : Shape) (cols : List Column) (start : Visit) (claimed : ℕ → PageId) (n : ℕ) (at other : SlotsAt) (owns : PageId → Bool) (edits : List Edit) (rows : Rows) → ((p : PageId) → also owns claimed n p ≡ true → at p ≡ other p) → Carries shape cols start claimed n at owns edits rows → Carries shape cols start claimed n other owns edits rows }
+{}
+
+/// A plan depends only on the pages that it claims: a list of these may be read with any page behind its end.
+pub fn plans_depend_on_the_claimed_pages()
+    ensures { (shape : Shape) (cols : List Column) (start : Visit) (claimed other : ℕ → PageId) (n : ℕ) (at : SlotsAt) (owns : PageId → Bool) (edits : List Edit) (rows : Rows) → ((i : ℕ) → i < n → claimed i ≡ other i) → All (IsBelow n) edits → Carries shape cols start claimed n at owns edits rows → Carries shape cols start other n at owns edits rows }
 {}
 
 /// After its first edit a plan promises the same of the edits to come, and behind the last one the rows are there.
 pub fn plans_are_carried_on()
-    ensures first { (kids : Kids) (cols : List Column) (start : Visit) (claimed : ℕ → PageId) (n : ℕ) (at : SlotsAt) (owns : PageId → Bool) (e : Edit) (edits : List Edit) (rows : Rows) → Carries kids cols start claimed n at owns (e ∷ edits) rows → Fits claimed at e × (also owns claimed n (place claimed e.spot) ≡ true) }
-    ensures later { (kids : Kids) (cols : List Column) (start : Visit) (claimed : ℕ → PageId) (n : ℕ) (at : SlotsAt) (owns : PageId → Bool) (e : Edit) (edits : List Edit) (rows : Rows) → Carries kids cols start claimed n at owns (e ∷ edits) rows → Carries kids cols start claimed n (changed claimed at e) owns edits rows }
-    ensures last { (kids : Kids) (cols : List Column) (start : Visit) (claimed : ℕ → PageId) (n : ℕ) (at : SlotsAt) (owns : PageId → Bool) (rows : Rows) → Carries kids cols start claimed n at owns [] rows → HasRows kids cols at (also owns claimed n) start rows }
+    ensures first { (shape : Shape) (cols : List Column) (start : Visit) (claimed : ℕ → PageId) (n : ℕ) (at : SlotsAt) (owns : PageId → Bool) (e : Edit) (edits : List Edit) (rows : Rows) → Carries shape cols start claimed n at owns (e ∷ edits) rows → Fits claimed at e × (also owns claimed n (place claimed e.spot) ≡ true) }
+    ensures later { (shape : Shape) (cols : List Column) (start : Visit) (claimed : ℕ → PageId) (n : ℕ) (at : SlotsAt) (owns : PageId → Bool) (e : Edit) (edits : List Edit) (rows : Rows) → Carries shape cols start claimed n at owns (e ∷ edits) rows → Carries shape cols start claimed n (changed claimed at e) owns edits rows }
+    ensures last { (shape : Shape) (cols : List Column) (start : Visit) (claimed : ℕ → PageId) (n : ℕ) (at : SlotsAt) (owns : PageId → Bool) (rows : Rows) → Carries shape cols start claimed n at owns [] rows → HasRows shape cols at (also owns claimed n) start rows }
 {}
 
 /// The address of a page that may be named is read as that page.

@@ -1,7 +1,7 @@
 //! What all layouts of a table share: the walk over its pages, its rows, and what a plan of edits promises.
 #![tactic(auto)]
 
-mod address;
+mod addresses;
 mod differences;
 mod find;
 mod index;
@@ -14,14 +14,14 @@ mod row_map;
 mod rows;
 mod visit;
 
-pub use address::{names_none, page_at};
+pub use addresses::{address, names_none, page_at};
 pub use differences::add_differences;
 pub use find::{Find, Wants};
 pub use index::{page_index, place};
 pub use key::{copy_row, key_of};
 pub use law::{
-    addresses_are_read, plans_are_carried_on, plans_depend_on_owned_pages, rows_are_one,
-    rows_depend_on_owned_pages,
+    addresses_are_read, plans_are_carried_on, plans_depend_on_owned_pages,
+    plans_depend_on_the_claimed_pages, rows_are_one, rows_depend_on_owned_pages,
 };
 pub use layout::{Layout, Walked, walk, wants_of};
 pub use plan::{Edit, EditList, Plan, Spot};

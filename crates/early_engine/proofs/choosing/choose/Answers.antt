@@ -1,6 +1,7 @@
 use Rattle.std.proofs.Common.{◌∙◌, List, [], ℕ, sym, ap, subst}
 use Rattle.plain_model.specs.declared.stmt.Stmt.TheVariants.{Broken}
 use Rattle.plain_model.specs.declared.reply.Reply.TheVariants.{Msg}
+use Rattle.plain_model.specs.declared.reply.TheConstants.Message.{SYNTAX}
 use Rattle.plain_model.specs.Messages.{at_place}
 use Rattle.early_engine.specs.declared.answer.Answer.TheVariants.{AtOnce}
 use Rattle.early_pages.specs.Shown.{catalog}
@@ -39,7 +40,7 @@ returns-in-Select g c = λ opening seen setting named.
 pub returns-in-Broken : goal.returns-in-Broken
 returns-in-Broken g c = λ opening seen setting named.
     let means = subst (λ (s : List ℕ). Means s (catalog c.args.pages.now) c.args.current.now c.find_database-db.result) (sym named) c.find_database-db.ensures.means in
-    let is = c.only.ensures ∙ ap (λ r. record { answer = AtOnce r; edits = [] }) (c.refused_at.ensures ∙ ap (λ n. Msg (at_place 102 n)) c.from.ensures) in
+    let is = c.only.ensures ∙ ap (λ r. record { answer = AtOnce r; edits = [] }) (c.refused_at.ensures ∙ ap (λ n. Msg (at_place SYNTAX n)) c.from.ensures) in
     rw c.in-Broken.is (same_decides c.args.pages.now c.find_database-db.result (Broken c.in-Broken.at) _ _ is (broken c.args.pages.now c.find_database-db.result c.in-Broken.at) opening c.args.current.now seen setting means)
 
 pub returns-in_default : goal.returns-in_default

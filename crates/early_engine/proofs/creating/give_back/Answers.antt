@@ -4,6 +4,7 @@ use Rattle.std.specs.FinSet as finset
 use Rattle.early_engine.proofs.NameLemmas.{removed_key, removed_out, key-insert_other, rose_of, rose_later, later_rose, removed_well, removed_others}
 use Rattle.early_engine.proofs.creating.give_back.Goals as goal
 use Rattle.early_engine.proofs.creating.give_back.Goals.{else-put-via-then-put+else-removed, else-put-via-else-put}
+use Rattle.plain_model.specs.declared.reply.TheConstants.Message.{FILE_FAILED, NO_MEMORY}
 
 pub remove-requires : goal.remove-requires
 remove-requires g c = ap (λ o. finset.contains o c.args.path.now) c.put_pages.ensures.out ∙ removed_out (g.V.Volume.out c.args.volume.now) c.args.path.now
@@ -14,7 +15,7 @@ returns-then-removed g c =
     let mid = c.put_pages.new.self in
     let told_mid : IsTrue (g.V.Volume.tells old) → IsTrue (g.V.Volume.tells mid) = λ t. c.put_pages.ensures.tells ∙ t in
     record {
-      code = 701;
+      code = NO_MEMORY;
       is = c.refused.ensures;
       either = inl refl;
       told = c.remove.ensures.tells ∙ c.put_pages.ensures.tells;
@@ -34,7 +35,7 @@ returns-else-put g c =
     let new = c.remove.new.self in
     let told_mid : IsTrue (g.V.Volume.tells old) → IsTrue (g.V.Volume.tells mid) = λ t. c.put_pages.ensures.tells ∙ t in
     record {
-      code = 60021;
+      code = FILE_FAILED;
       is = c.refused-else-put.ensures;
       either = inr (
         refl,

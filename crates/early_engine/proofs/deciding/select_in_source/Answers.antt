@@ -4,6 +4,7 @@ use Rattle.std.specs.FinMap as finite
 use Rattle.page_base.specs.declared.numbers.Mode.TheVariants.{S}
 use Rattle.plain_model.specs.declared.reply.Reply.{Reply}
 use Rattle.plain_model.specs.declared.reply.Reply.TheVariants.{Msg}
+use Rattle.plain_model.specs.declared.reply.TheConstants.Message.{NO_TABLE}
 use Rattle.plain_model.specs.Messages.{plain}
 use Rattle.plain_model.specs.Statements.{shape_over, data_over}
 use Rattle.plain_model.specs.Tables.{Table, Change}
@@ -24,7 +25,7 @@ pub returns-in_default : goal.returns-in_default
 returns-in_default g c = λ opening seen setting.
     let h = c.requires.select in
     is_same opening opening.source c.args.pages.now seen c.args.stmt.now _ _ (c.only.ensures ∙ ap (λ (r : Reply). let d : Decision = record { answer = UnderAll S r; edits = [] } in d) c.refused.ensures)
-    (as_select (λ stmt name. finite.get seen.source name ≡ None → IsDecision opening opening.source c.args.pages.now seen stmt (record { answer = UnderAll S (Msg (plain 208)); edits = [] })) c.args.stmt.now c.args.name.now h
+    (as_select (λ stmt name. finite.get seen.source name ≡ None → IsDecision opening opening.source c.args.pages.now seen stmt (record { answer = UnderAll S (Msg (plain NO_TABLE)); edits = [] })) c.args.stmt.now c.args.name.now h
     (select_none opening c.args.pages.now seen setting h.select) (c.in_default.ensures.none seen.source setting.none.says))
 
 pub returns : goal.returns

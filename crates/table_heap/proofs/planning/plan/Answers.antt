@@ -6,7 +6,7 @@ use Rattle.table_walk.specs.Tables.{IsBadRow}
 use Rattle.table_walk.proofs.Exits.{handed_on}
 use Rattle.table_walk.proofs.TableLemmas.{table_no_bad_row}
 use Rattle.table_heap.specs.Emission.{read_slots, IsPlanned}
-use Rattle.table_heap.specs.Heap.{heap_kids, first}
+use Rattle.table_heap.specs.Heap.{heap_kids, heap_shape, first}
 use Rattle.table_heap.specs.Shape.{leaves_in}
 use Rattle.table_heap.proofs.PlanningLemmas.{places_within, bad_read}
 use Rattle.table_heap.proofs.PromiseLemmas.{promised}
@@ -27,7 +27,7 @@ pub returns-in_err-draft-clause-whole : goal.returns-in_err-draft-clause-whole
 returns-in_err-draft-clause-whole c = λ at owns rows t shows.
     let is : c.as_slice-2.result.now ≡ map (place_of c.args.seen.now) (leaves_in c.in_ok-done.done.items) = c.as_slice-2.ensures.value ∙ c.in_ok-places.ensures ∙ ap (λ vs. map (place_of c.args.seen.now) (leaves_in vs)) c.as_slice.ensures.value in
     handed_on IsMemory c.from_residual-in_err-draft.result c.in_err-draft.field-0.0 c.from_residual-in_err-draft.ensures.1
-    (table_no_bad_row heap_kids c.args.cols.now at owns (first c.args.root) rows c.args.seen.now t c.in_err-draft.field-0.0 shows
+    (table_no_bad_row heap_shape c.args.cols.now at owns (first c.args.root) rows c.args.seen.now t c.in_err-draft.field-0.0 shows
     (bad_read c.args.seen.now c.args.cols.now c.args.root c.in_ok-done.done.items c.as_slice-2.result.now c.in_err-draft.field-0.0 c.in_ok-done.ensures.done is c.in_err-draft.ensures.bad))
 
 pub planned-requires-clause-within : goal.planned-requires-clause-within

@@ -14,6 +14,7 @@ use Rattle.early_engine.proofs.SayingLemmas.{roomy, roomy_stays, says_seen}
 use Rattle.early_engine.specs.Causes.{HasPlace}
 use Rattle.plain_model.specs.declared.stmt.Stmt.{Stmt}
 use Rattle.plain_model.specs.declared.reply.Reply.TheVariants.{Msg}
+use Rattle.plain_model.specs.declared.reply.TheConstants.Message.{NO_MEMORY}
 use Rattle.plain_model.specs.Messages.{plain}
 use Rattle.plain_model.specs.Tables.{Tables}
 use Rattle.early_pages.specs.Views.{view, IsKept}
@@ -79,7 +80,7 @@ invariant_of-self g c =
     (sym (append-nil c.self.inside.ledger.events)) (omega arith) s.ensures.turns (leaves_of c.self.inside.pages s.new.pages s.ensures.pushes) c.enter_reply.ensures refl c.len-began.ensures (enough e safe c.args.place next) (omega arith) in
     safe_see e safe c.args.place next c.args.s c.args.name.now seeing s.new.pages c.enter_reply.new.ledger s.ensures.pushes c.cat-snaps.ensures.few s.result
     (subst (λ (t : Seat). Does (c.args.place + 1) (t.said + 1) (AtOnce s.result) c.self.inside.ledger c.enter_reply.new.ledger c.self.inside.pages s.new.pages) seat_is does)
-    s.ensures.lost (subst (λ (x : Stmt). IsKept s.new.pages c.args.s → (tables : Tables) → AreTables (data_pages s.new.pages) (view s.new.pages c.args.s) tables → (s.result ≡ Msg (plain 701)) ⊎ (s.result ≡ selected x c.args.name.now tables)) (sym stmt_is) s.ensures.reply) c.index-seat.result.now seat_is
+    s.ensures.lost (subst (λ (x : Stmt). IsKept s.new.pages c.args.s → (tables : Tables) → AreTables (data_pages s.new.pages) (view s.new.pages c.args.s) tables → (s.result ≡ Msg (plain NO_MEMORY)) ⊎ (s.result ≡ selected x c.args.name.now tables)) (sym stmt_is) s.ensures.reply) c.index-seat.result.now seat_is
 
 pub returns : goal.returns
 returns g c =

@@ -3,7 +3,7 @@ use Rattle.std.proofs.Common.{sym, ap, ◌∙◌, subst}
 use Rattle.std.specs.Prelude.{OnOk}
 use Rattle.lock_book.specs.Locks.{Locks, Holds, IsOnce, lock_of}
 use Rattle.lock_book.specs.Taking.{stronger}
-use Rattle.lock_book.proofs.Takes.{holds_on_ok, free_found, lowest_found, free_on_ok, refused_for_memory, book_left, others_left}
+use Rattle.lock_book.proofs.Takes.{holds_on_ok, free_found, lowest_found, free_on_ok, refused_for_memory, book_left, others_left, rest_left}
 use Rattle.lock_book.proofs.book.LockBook.take.Goals as goal
 
 pub invariant_of-self : goal.invariant_of-self
@@ -35,6 +35,11 @@ returns-in-None-clause-book c =
 pub returns-in-None-clause-others : goal.returns-in-None-clause-others
 returns-in-None-clause-others c = λ k at ne.
     others_left c.self.inside.locks.items _ c.args.who c.args.table c.args.mode c.give.result c.give.ensures.given c.give.ensures.same k at ne
+    ∙ ap (λ (v : Locks). lock_of v k at) c.self.view_is
+
+pub returns-in-None-clause-rest : goal.returns-in-None-clause-rest
+returns-in-None-clause-rest c = λ k at ne.
+    rest_left c.self.inside.locks.items _ c.args.who c.args.table c.args.mode c.give.result c.give.ensures.given c.give.ensures.same k at ne
     ∙ ap (λ (v : Locks). lock_of v k at) c.self.view_is
 
 pub returns-in-None-clause-holds : goal.returns-in-None-clause-holds

@@ -1,5 +1,5 @@
-use Rattle.std.proofs.Common.{List, ℕ, set, ap, ◌∙◌}
-use Rattle.mem_dev.specs.Store.{content_of}
+use Rattle.std.proofs.Common.{set, ap, ◌∙◌}
+use Rattle.mem_dev.specs.Store.{SureState, content_of}
 use Rattle.mem_dev.proofs.StoreLemmas.{full-set, content-set}
 use Rattle.mem_dev.proofs.pages.SurePagesPageFile.write_page.Goals as goal
 
@@ -8,4 +8,4 @@ invariant_of-self c = rw c.overwrite.ensures.new (full-set c.self.inside.store c
 
 pub returns-clause-pages : goal.returns-clause-pages
 returns-clause-pages c =
-    ap content_of c.overwrite.ensures.new ∙ content-set c.self.inside.store c.args.n c.args.from.now ∙ ap (λ (s : List (List ℕ)). set s c.args.n c.args.from.now) c.self.view_is
+    ap content_of c.overwrite.ensures.new ∙ content-set c.self.inside.store c.args.n c.args.from.now ∙ ap (λ (s : SureState). set s.pages c.args.n c.args.from.now) c.self.view_is

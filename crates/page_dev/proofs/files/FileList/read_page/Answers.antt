@@ -1,7 +1,7 @@
 use Rattle.std.proofs.Common.{◌≡◌, ℕ, ◌<◌, IsTrue, OnOk, List, length, get_or, refl, ap, sym, ◌∙◌, subst, arith}
 use Rattle.std.proofs.Math.ListN.{length-map}
 use Rattle.page_dev.specs.Files.{Files, all_true}
-use Rattle.page_dev.proofs.FilesLemmas.{place_there, place_there_by, alike, caused_sum, all_true_at, kept, faulted, reads}
+use Rattle.page_dev.proofs.FilesLemmas.{place_there, place_there_by, alike, caused_sum, all_true_at, kept, one_call, faulted, reads}
 use Rattle.page_dev.proofs.files.FileList.read_page.Goals as goal
 
 pub returns-clause-tells : goal.returns-clause-tells
@@ -29,6 +29,11 @@ returns-clause-read g c t =
     let lt : c.args.p.file < length c.self.inside.files.items = within c.args.self.now.counts _ _ _ c.requires (ap length (sym (ap (λ (v : Files). v.counts) c.self.view_is)) ∙ length-map c.self.inside.files.items g.P.PageFile.count) in
     let told : IsTrue (g.P.PageFile.tells c.index_mut.result.now) = subst (λ f. IsTrue (g.P.PageFile.tells f)) (sym c.index_mut.ensures.value) (all_true_at g.P.PageFile.tells c.self.inside.files.items c.args.p.file c.index_mut.result.now lt (subst IsTrue (sym (ap (λ (v : Files). v.tells) c.self.view_is)) t)) in
     subst (λ bytes. OnOk c.read_page.result (c.read_page.new.into ≡ bytes)) (reads g.P.PageFile.content c.self.inside.files.items c.args.p c.index_mut.result.now c.args.self.now.content c.index_mut.ensures.value lt (ap (λ (v : Files). v.content) c.self.view_is)) (c.read_page.ensures.read told)
+
+pub returns-clause-calls : goal.returns-clause-calls
+returns-clause-calls g c =
+    let lt : c.args.p.file < length c.self.inside.files.items = within c.args.self.now.counts _ _ _ c.requires (ap length (sym (ap (λ (v : Files). v.counts) c.self.view_is)) ∙ length-map c.self.inside.files.items g.P.PageFile.count) in
+    one_call g.P.PageFile.calls c.self.inside.files.items c.args.p.file c.index_mut.result.now c.read_page.new.self c.args.self.now.calls c.index_mut.ensures.value lt (ap (λ (v : Files). v.calls) c.self.view_is) c.read_page.ensures.calls
 
 pub returns-clause-cause_of_sum : goal.returns-clause-cause_of_sum
 returns-clause-cause_of_sum g c = caused_sum c.args.p.file c.args.self.now.failures _ c.read_page.result (place_there_by c.args.self.now.counts c.args.self.now.failures _ _ c.requires (alike g.P.PageFile.count g.P.PageFile.failures c.self.inside.files.items _ _ (ap (λ (v : Files). v.counts) c.self.view_is) (ap (λ (v : Files). v.failures) c.self.view_is))) (returns-clause-cause g c)
