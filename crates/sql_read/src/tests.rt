@@ -26,7 +26,7 @@ fn outcome_of(alloc: Global, batch: &[u8]) -> Outcome {
 }
 
 // Each production, and each refusal of the grammar, with the place of the wrong token counted by hand.
-const BATCHES: [(&str, Outcome); 84] = [
+const BATCHES: [(&str, Outcome); 97] = [
     ("", Outcome::Read(0)),
     (" \t\n \n", Outcome::Read(0)),
     ("USE shop", Outcome::Read(1)),
@@ -126,6 +126,49 @@ const BATCHES: [(&str, Outcome); 84] = [
     ("SET LOCK_TIMEOUT 0", Outcome::Read(1)),
     ("SET LOCK_TIMEOUT 1", Outcome::RefusedAt(17)),
     ("SET TIMEOUT 0", Outcome::RefusedAt(4)),
+    (
+        "SET TRANSACTION ISOLATION LEVEL READ COMMITTED set transaction isolation level Serializable",
+        Outcome::Read(2),
+    ),
+    ("SET ISOLATION LEVEL SERIALIZABLE", Outcome::RefusedAt(4)),
+    (
+        "SET TRAN ISOLATION LEVEL SERIALIZABLE",
+        Outcome::RefusedAt(4),
+    ),
+    ("SET TRANSACTION", Outcome::RefusedAt(15)),
+    ("SET TRANSACTION LEVEL SERIALIZABLE", Outcome::RefusedAt(16)),
+    (
+        "SET TRANSACTION [ISOLATION] LEVEL SERIALIZABLE",
+        Outcome::RefusedAt(16),
+    ),
+    (
+        "SET TRANSACTION ISOLATION READ COMMITTED",
+        Outcome::RefusedAt(26),
+    ),
+    (
+        "SET TRANSACTION ISOLATION LEVEL [SERIALIZABLE]",
+        Outcome::RefusedAt(32),
+    ),
+    (
+        "SET TRANSACTION ISOLATION LEVEL COMMITTED",
+        Outcome::RefusedAt(32),
+    ),
+    (
+        "SET TRANSACTION ISOLATION LEVEL READ",
+        Outcome::RefusedAt(36),
+    ),
+    (
+        "SET TRANSACTION ISOLATION LEVEL READ UNCOMMITTED",
+        Outcome::RefusedAt(37),
+    ),
+    (
+        "SET TRANSACTION ISOLATION LEVEL SERIALIZABLE COMMITTED",
+        Outcome::RefusedAt(45),
+    ),
+    (
+        "USE isolation CREATE TABLE level (read INT PRIMARY KEY, committed INT, serializable INT) SELECT read FROM level WHERE committed = serializable",
+        Outcome::Read(3),
+    ),
     (
         "RESTORE DATABASE shop FROM DATABASE_SNAPSHOT = 's1'",
         Outcome::Read(1),

@@ -12,6 +12,7 @@ pub mod GrowingLemmas
 pub mod HeapLemmas
 pub mod InTurn
 pub mod LeafLemmas
+pub mod NewRootLemmas
 pub mod NumberLemmas
 pub mod PlaceLemmas
 pub mod PlanningLemmas

@@ -1,7 +1,10 @@
 //! Which pages a page of a heap names.
 
-ghost use Rattle.std.specs.Prelude.{option_to_list, ◌≡◌, ◌<◌, [], IfOk, IfErr, Ok, Err, length, drop, slice_index_or};
-ghost use Rattle.page_fmt.specs.Seen.{Looked};
+ghost use Rattle.std.specs.Prelude.{option_to_list, ◌≡◌, ◌↔◌, ◌<◌, ◌∷◌, [], true, Bool, List, IfOk, IfErr, Ok, Err, length, drop, slice_index_or};
+ghost use Rattle.std.specs.FinMap as finite;
+ghost use Rattle.page_base.specs.declared.column.Column.{Column};
+ghost use Rattle.page_base.specs.declared.numbers.PageId.{PageId};
+ghost use Rattle.page_fmt.specs.Seen.{Looked, SlotsAt};
 ghost use Rattle.table_walk.specs.Answers.{IsOn};
 ghost use Rattle.table_heap.specs.Heap as spec;
 
@@ -113,4 +116,11 @@ impl Layout for Heap {
         }
         root_kids(alloc, visit.page, seen, i)
     }
+}
+
+/// The bytes of slot 0 of a new root page, which by itself is a heap of no rows. Takes no memory.
+pub fn new_root() -> [u8; 5]
+    ensures { (cols : List Column) (at : SlotsAt) (owns : PageId → Bool) (root : PageId) → at root ≡ result ∷ [] → ((p : PageId) → (owns p ≡ true) ↔ (p ≡ root)) → spec.RowsAt cols at owns root finite.empty }
+{
+    [0, 0, 0, 0, 0]
 }

@@ -19,6 +19,7 @@ mod tests;
 mod turns;
 
 pub use law::placed_rows_are_the_rows;
+pub use layout::new_root;
 pub use limits::may_put;
 pub use planning::plan;
 pub use reading::{rows, wants};

@@ -1,4 +1,4 @@
-//! Plans of heaps that are carried out on pages in memory: the rows are those of a plain list then.
+//! Plans of heaps that are carried out on pages in memory: how many pages they claim, and the rows that are there then.
 
 ghost use Rattle.std.specs.Prelude.{◌≡◌, IfOk, List};
 ghost use Rattle.page_fmt.specs.Content.{IsPage};
@@ -7,11 +7,11 @@ use crate::{may_put, plan, rows, wants};
 use page_base::{
     Bytes, ColType, Column, Columns, Image, Name, NoMemory, PageId, Row, RowList, Value,
 };
-use page_fmt::{Seen, check, clear_slot, put_slot};
+use page_fmt::{Seen, check, edit};
 use row_fmt::{encode, fits};
 use std::alloc::Global;
 use std::test::Fail;
-use table_walk::{Edit, Find, Plan, RowMap, SeenRefusal, Spot, Wants, copy_row, key_of};
+use table_walk::{Edit, Find, Plan, SeenRefusal, Spot, Wants, address};
 
 const ROOT: PageId = PageId { file: 0, page: 7 };
 
@@ -30,17 +30,6 @@ fn claimed(before: u32, i: u32) -> PageId {
     }
 }
 
-fn address(page: PageId) -> [u8; 5] {
-    let p = page.page;
-    [
-        page.file,
-        (p % 256) as u8,
-        (p / 256 % 256) as u8,
-        (p / 65536 % 256) as u8,
-        (p / 16777216) as u8,
-    ]
-}
-
 // The bytes that an edit writes.
 fn bytes_of(alloc: Global, before: u32, edit: &Edit) -> Result<Vec<u8>, NoMemory> {
     let mut bytes = Vec::new(alloc);
@@ -53,36 +42,35 @@ fn bytes_of(alloc: Global, before: u32, edit: &Edit) -> Result<Vec<u8>, NoMemory
 
 // Whether an edit was done.
 fn write(image: &mut Image, slot: u16, bytes: &[u8]) -> bool {
-    if check(image).is_err() || 4048 <= slot || 8094 < bytes.len() {
-        return false;
-    }
-    if bytes.is_empty() {
-        clear_slot(image, slot);
-        return true;
-    }
-    put_slot(image, slot, bytes).is_ok()
+    check(image).is_ok() && slot < 4048 && bytes.len() <= 8094 && edit(image, slot, bytes).is_ok()
 }
 
 // The place of a page among the root page and those that were claimed.
-fn place(id: PageId) -> usize {
-    if id == ROOT { 0 } else { id.page as usize }
+fn place(before: u32, spot: Spot) -> usize {
+    match spot {
+        Spot::Old(page) if page == ROOT => 0,
+        Spot::Old(page) => page.page as usize,
+        Spot::New(i) => claimed(before, i).page as usize,
+    }
 }
 
-// Carries a plan out; false where an edit can't be done.
-fn carry(alloc: Global, before: u32, plan: &Plan, pages: &mut Vec<Page>) -> Result<bool, NoMemory> {
-    for i in 0..plan.new_pages {
+// Blank pages behind those that are there.
+fn claim(alloc: Global, before: u32, count: u32, pages: &mut Vec<Page>) -> Result<(), NoMemory> {
+    for i in 0..count {
         pages.push(Page {
             id: claimed(before, i),
             image: Image::blank(alloc)?,
         })?;
     }
+    Ok(())
+}
+
+// Carries a plan out; false where an edit can't be done.
+fn carry(alloc: Global, before: u32, plan: &Plan, pages: &mut Vec<Page>) -> Result<bool, NoMemory> {
+    claim(alloc, before, plan.new_pages, pages)?;
     for edit in plan.edits.as_slice() {
-        let id = match edit.spot {
-            Spot::Old(page) => page,
-            Spot::New(i) => claimed(before, i),
-        };
         let bytes = bytes_of(alloc, before, edit)?;
-        let i = place(id);
+        let i = place(before, edit.spot);
         if i >= pages.len() || !write(&mut pages[i].image, edit.slot, bytes.as_slice()) {
             return Ok(false);
         }
@@ -131,33 +119,6 @@ fn row(alloc: Global, key: i32, length: usize) -> Result<Row, NoMemory> {
     Ok(row)
 }
 
-fn key(alloc: Global, key: i32) -> Result<Row, NoMemory> {
-    let mut row = Row::new(alloc);
-    row.push(Value::Int(key))?;
-    Ok(row)
-}
-
-// The rows without those of some keys, and with others.
-fn changed(
-    alloc: Global,
-    cols: &Columns,
-    old: &RowList,
-    cut: &RowList,
-    put: &RowList,
-) -> Result<RowList, NoMemory> {
-    let mut rows = RowMap::new(alloc);
-    for row in old.as_slice() {
-        let key = key_of(alloc, cols.as_slice(), row)?;
-        if !cut.as_slice().iter().any(|k| *k == key) {
-            rows.put(key, copy_row(alloc, row)?)?;
-        }
-    }
-    for row in put.as_slice() {
-        rows.put(key_of(alloc, cols.as_slice(), row)?, copy_row(alloc, row)?)?;
-    }
-    rows.into_list(alloc)
-}
-
 // The rows of the heap; none where its pages are no heap.
 fn all_rows(alloc: Global, cols: &Columns, pages: &[Page]) -> Result<Option<RowList>, SeenRefusal> {
     let Some(seen) = read(alloc, pages)? else {
@@ -173,7 +134,6 @@ fn all_rows(alloc: Global, cols: &Columns, pages: &[Page]) -> Result<Option<RowL
 fn planned(
     alloc: Global,
     cols: &Columns,
-    cut: &RowList,
     put: &RowList,
     pages: &[Page],
 ) -> Result<Option<Plan>, SeenRefusal> {
@@ -185,36 +145,8 @@ fn planned(
     }
     match wants(alloc, ROOT, cols, &Find::All, &seen)? {
         Wants::Page { page: _, rows: _ } => Ok(None),
-        Wants::Done => Ok(Some(plan(alloc, ROOT, cols, cut, put, &seen)?)),
+        Wants::Done => Ok(Some(plan(alloc, ROOT, cols, &RowList::new(alloc), put, &seen)?)),
     }
-}
-
-// Plans and carries out; how many pages were claimed, none where the rows aren't those of the plain list then.
-fn changes(
-    alloc: Global,
-    cols: &Columns,
-    before: u32,
-    cut: &RowList,
-    put: &RowList,
-    pages: &mut Vec<Page>,
-) -> Result<Option<u32>, SeenRefusal> {
-    let Some(old) = all_rows(alloc, cols, pages.as_slice())? else {
-        return Ok(None);
-    };
-    let Some(plan) = planned(alloc, cols, cut, put, pages.as_slice())? else {
-        return Ok(None);
-    };
-    if !carry(alloc, before, &plan, pages)? {
-        return Ok(None);
-    }
-    let Some(new) = all_rows(alloc, cols, pages.as_slice())? else {
-        return Ok(None);
-    };
-    let wanted = changed(alloc, cols, &old, cut, put)?;
-    if new.as_slice() != wanted.as_slice() {
-        return Ok(None);
-    }
-    Ok(Some(plan.new_pages))
 }
 
 fn new_heap(alloc: Global) -> Result<Vec<Page>, NoMemory> {
@@ -225,50 +157,31 @@ fn new_heap(alloc: Global) -> Result<Vec<Page>, NoMemory> {
     Ok(pages)
 }
 
-fn next(seed: &mut u32) -> u32 {
-    let mut x = *seed;
-    x ^= x << 13;
-    x ^= x >> 17;
-    x ^= x << 5;
-    *seed = x;
-    x
-}
-
-// A random change of some rows.
-fn random(alloc: Global, seed: &mut u32) -> Result<(RowList, RowList), NoMemory> {
-    let mut cut = RowList::new(alloc);
+// Puts one row; how many pages were claimed, none where the plan wasn't carried out.
+fn put_one(
+    alloc: Global,
+    cols: &Columns,
+    before: u32,
+    row: Row,
+    pages: &mut Vec<Page>,
+) -> Result<Option<u32>, SeenRefusal> {
     let mut put = RowList::new(alloc);
-    for _ in 0..next(seed) % 6 {
-        cut.push(key(alloc, (next(seed) % 50) as i32)?)?;
+    put.push(row)?;
+    let Some(plan) = planned(alloc, cols, &put, pages.as_slice())? else {
+        return Ok(None);
+    };
+    if !carry(alloc, before, &plan, pages)? {
+        return Ok(None);
     }
-    for _ in 0..next(seed) % 12 {
-        let short = next(seed) % 40;
-        let length = if next(seed) % 3 == 0 {
-            next(seed) % 8050
-        } else {
-            short
-        };
-        put.push(row(alloc, (next(seed) % 50) as i32, length as usize)?)?;
-    }
-    Ok((cut, put))
+    Ok(Some(plan.new_pages))
 }
 
-#[test]
-fn random_changes_agree_with_a_list(rt: HostRuntime) -> Result<(), Fail> {
-    let alloc = rt.alloc();
-    let cols = columns(alloc)?;
-    let mut seed = 77777;
-    for _ in 0..4 {
-        let mut pages = new_heap(alloc)?;
-        let mut before = 0;
-        for _ in 0..12 {
-            let (cut, put) = random(alloc, &mut seed)?;
-            let claims = changes(alloc, &cols, before, &cut, &put, &mut pages)?;
-            assert_eq!(rt; claims.is_some(), true);
-            before = before.saturating_add(claims.unwrap_or(0));
-        }
+// How many rows there are, none where the pages are no heap.
+fn count(alloc: Global, cols: &Columns, pages: &[Page]) -> Result<Option<usize>, SeenRefusal> {
+    match all_rows(alloc, cols, pages)? {
+        Some(rows) => Ok(Some(rows.len())),
+        None => Ok(None),
     }
-    Ok(())
 }
 
 #[test]
@@ -276,19 +189,20 @@ fn a_row_that_grows_leaves_its_leaf(rt: HostRuntime) -> Result<(), Fail> {
     let alloc = rt.alloc();
     let cols = columns(alloc)?;
     let mut pages = new_heap(alloc)?;
-    let none = RowList::new(alloc);
-    for (before, key, length, claims) in [
-        (0, 1, 4000, 1),
-        (1, 2, 4000, 0),
-        (1, 1, 5000, 1),
-        (2, 1, 8053, 0),
-        (2, 3, 4000, 0),
-        (2, 4, 8053, 1),
+    for (before, key, length, claims, rows) in [
+        (0, 1, 4000, 1, 1),
+        (1, 2, 4000, 0, 2),
+        (1, 1, 5000, 1, 2),
+        (2, 1, 8053, 0, 2),
+        (2, 3, 4000, 0, 3),
+        (2, 4, 8053, 1, 4),
     ] {
-        let mut put = RowList::new(alloc);
-        put.push(row(alloc, key, length)?)?;
-        let claimed = changes(alloc, &cols, before, &none, &put, &mut pages)?;
-        assert_eq!(rt; claimed, Some(claims));
+        let row = row(alloc, key, length)?;
+        assert_eq!(rt;
+            put_one(alloc, &cols, before, row, &mut pages)?,
+            Some(claims)
+        );
+        assert_eq!(rt; count(alloc, &cols, pages.as_slice())?, Some(rows));
     }
     Ok(())
 }
@@ -317,40 +231,43 @@ fn encoded(alloc: Global, cols: &Columns, row: &Row) -> Result<Bytes, NoMemory> 
     }
 }
 
+// The leaf and its root page, and then the leaf, the new root page, and slot 0 of the old one.
+const SPOTS: [(Spot, u16, Option<u32>); 6] = [
+    (Spot::New(0), 0, None),
+    (Spot::Old(ROOT), 0, Some(2)),
+    (Spot::Old(ROOT), 1000, Some(0)),
+    (Spot::New(1), 0, None),
+    (Spot::New(2), 0, None),
+    (Spot::New(2), 1, Some(1)),
+];
+
+// Which slots a plan edits, and which claimed pages it names there.
+fn spots(alloc: Global, plan: &Plan) -> Result<Vec<(Spot, u16, Option<u32>)>, NoMemory> {
+    let mut spots = Vec::new(alloc);
+    for edit in plan.edits.as_slice() {
+        spots.push((edit.spot, edit.slot, edit.names))?;
+    }
+    Ok(spots)
+}
+
+// The plan that puts two rows, each of which takes a leaf.
+fn two_leaves(alloc: Global, cols: &Columns, pages: &[Page]) -> Result<Option<Plan>, SeenRefusal> {
+    let mut put = RowList::new(alloc);
+    put.push(row(alloc, 2000, 8053)?)?;
+    put.push(row(alloc, 2001, 8053)?)?;
+    planned(alloc, cols, &put, pages)
+}
+
 #[test]
 fn leaf_1001_brings_a_root_page(rt: HostRuntime) -> Result<(), Fail> {
     let alloc = rt.alloc();
     let cols = columns(alloc)?;
     let mut pages = heap_of_999(alloc, &cols)?;
-    let none = RowList::new(alloc);
-    let mut put = RowList::new(alloc);
-    put.push(row(alloc, 2000, 8053)?)?;
-    put.push(row(alloc, 2001, 8053)?)?;
-    let plan = planned(alloc, &cols, &none, &put, pages.as_slice())?;
-    assert_eq!(rt; plan.is_some(), true);
-    let Some(plan) = plan else {
-        return Ok(());
+    let Some(plan) = two_leaves(alloc, &cols, pages.as_slice())? else {
+        return Err("no plan".into());
     };
-    assert_eq!(rt; plan.new_pages, 3);
+    assert_eq!(rt; spots(alloc, &plan)?.as_slice(), SPOTS.as_slice());
     assert_eq!(rt; carry(alloc, 999, &plan, &mut pages)?, true);
-    let rows = all_rows(alloc, &cols, pages.as_slice())?;
-    assert_eq!(rt; rows.is_some_and(|rows| rows.len() == 1001), true);
-    let mut spots = Vec::new(alloc);
-    for edit in plan.edits.as_slice() {
-        spots.push((edit.spot, edit.slot, edit.names))?;
-    }
-    // The leaf and its root page, and then the leaf, the new root page, and slot 0 of the old one.
-    assert_eq!(rt;
-        spots.as_slice(),
-        [
-            (Spot::New(0), 0, None),
-            (Spot::Old(ROOT), 0, Some(2)),
-            (Spot::Old(ROOT), 1000, Some(0)),
-            (Spot::New(1), 0, None),
-            (Spot::New(2), 0, None),
-            (Spot::New(2), 1, Some(1)),
-        ]
-        .as_slice()
-    );
+    assert_eq!(rt; count(alloc, &cols, pages.as_slice())?, Some(1001));
     Ok(())
 }

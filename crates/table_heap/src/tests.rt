@@ -7,6 +7,7 @@ use crate::{rows, wants};
 use page_base::{ColType, Column, Columns, Image, Name, NoMemory, PageId, Row, RowList, Value};
 use page_fmt::{Seen, check, put_slot};
 use std::alloc::Global;
+use std::process::Abort;
 use std::test::Fail;
 use table_walk::{Find, SeenRefusal, Wants};
 
@@ -55,31 +56,44 @@ fn ints(alloc: Global, numbers: &[i32]) -> Result<Row, NoMemory> {
     Ok(row)
 }
 
+// The page that is read next, and whether it holds rows.
+fn next_page(
+    alloc: Global,
+    cols: &Columns,
+    seen: &Seen,
+) -> Result<Option<(PageId, bool)>, SeenRefusal> {
+    match wants(alloc, ROOT, cols, &Find::All, seen)? {
+        Wants::Page { page, rows } => Ok(Some((page, rows))),
+        Wants::Done => Ok(None),
+    }
+}
+
+// The small heap, read page by page.
+fn small_heap(rt: &impl Abort, alloc: Global, cols: &Columns) -> Result<Seen, Fail> {
+    let mut seen = Seen::new(alloc)?;
+    for (id, slots, rows) in [(ROOT, ROOT_SLOTS, false), (LEAF, LEAF_SLOTS, true)] {
+        assert_eq!(rt; next_page(alloc, cols, &seen)?, Some((id, rows)));
+        seen.add(alloc, id, &page(alloc, &slots)?)?;
+    }
+    Ok(seen)
+}
+
 #[test]
-fn pages_are_wanted_in_turn(rt: HostRuntime) -> Result<(), Fail> {
+fn a_small_heap_is_read(rt: HostRuntime) -> Result<(), Fail> {
     let alloc = rt.alloc();
     let cols = columns(alloc)?;
-    let mut seen = Seen::new(alloc)?;
-    let first = wants(alloc, ROOT, &cols, &Find::All, &seen)?;
+    let seen = small_heap(&rt, alloc, &cols)?;
+    let found = all_rows(alloc, &cols, &Find::All, &seen)?;
+    assert_eq!(rt; found.len(), 2);
     assert_eq!(rt;
-        first,
-        Wants::Page {
-            page: ROOT,
-            rows: false
-        }
+        found.at(0).as_slice(),
+        [Value::Int(1), Value::Int(10)].as_slice()
     );
-    seen.add(alloc, ROOT, &page(alloc, &ROOT_SLOTS)?)?;
-    let second = wants(alloc, ROOT, &cols, &Find::All, &seen)?;
-    assert_eq!(rt;
-        second,
-        Wants::Page {
-            page: LEAF,
-            rows: true
-        }
-    );
-    seen.add(alloc, LEAF, &page(alloc, &LEAF_SLOTS)?)?;
-    assert_eq!(rt; wants(alloc, ROOT, &cols, &Find::All, &seen)?, Wants::Done);
-    assert_eq!(rt; seen.len(), 2);
+    let mut keys = RowList::new(alloc);
+    keys.push(ints(alloc, &[2])?)?;
+    keys.push(ints(alloc, &[3])?)?;
+    let found = all_rows(alloc, &cols, &Find::Keys(keys), &seen)?;
+    assert_eq!(rt; found.len(), 1);
     Ok(())
 }
 
@@ -100,35 +114,6 @@ fn damaged_roots_are_named(rt: HostRuntime) -> Result<(), Fail> {
         let refused = wants(alloc, ROOT, &cols, &Find::All, &seen);
         assert_eq!(rt; refused, Err(SeenRefusal::Damaged { page: ROOT, slot }));
     }
-    Ok(())
-}
-
-#[test]
-fn rows_stand_in_key_order(rt: HostRuntime) -> Result<(), Fail> {
-    let alloc = rt.alloc();
-    let cols = columns(alloc)?;
-    let mut seen = Seen::new(alloc)?;
-    seen.add(alloc, ROOT, &page(alloc, &ROOT_SLOTS)?)?;
-    seen.add(alloc, LEAF, &page(alloc, &LEAF_SLOTS)?)?;
-    let found = all_rows(alloc, &cols, &Find::All, &seen)?;
-    assert_eq!(rt; found.len(), 2);
-    assert_eq!(rt;
-        found.at(0).as_slice(),
-        [Value::Int(1), Value::Int(10)].as_slice()
-    );
-    assert_eq!(rt;
-        found.at(1).as_slice(),
-        [Value::Int(2), Value::Int(20)].as_slice()
-    );
-    let mut keys = RowList::new(alloc);
-    keys.push(ints(alloc, &[2])?)?;
-    keys.push(ints(alloc, &[3])?)?;
-    let found = all_rows(alloc, &cols, &Find::Keys(keys), &seen)?;
-    assert_eq!(rt; found.len(), 1);
-    assert_eq!(rt;
-        found.at(0).as_slice(),
-        [Value::Int(2), Value::Int(20)].as_slice()
-    );
     Ok(())
 }
 
