@@ -43,7 +43,7 @@ use Rattle.table_pages.specs.Plans as plans
 use Rattle.early_engine.specs.Causes.{HasSpace, HasPlace, LacksSpace, LacksRoom}
 use Rattle.early_engine.specs.Changing.{is_change}
 use Rattle.early_engine.specs.Stepping.{tables_after, IsPlain}
-use Rattle.early_engine.proofs.Mild.{IsHarmless, IsMildFault, IsMild, AreMild, other_numbers, mild_overflow, mild_or, mild_if, mild_behind, mild_unless, mild_after, mild_rows}
+use Rattle.early_engine.proofs.Mild.{IsHarmless, IsMildFault, IsMild, AreMild, other_numbers, mild_number, mild_or, mild_if, mild_behind, mild_unless, mild_after, mild_rows}
 
 -- SUCH STATEMENTS
 
@@ -67,14 +67,14 @@ IsMildShape None = Unit {0}
 IsMildShape (Some m) = IsHarmless (Msg m)
 
 two_faults : (a b : Bool) → IsMildShape (option_map plain (first_that ((a, NO_COLUMN) ∷ (b, TYPE_CLASH) ∷ [])))
-two_faults true b = other_numbers NO_COLUMN refl refl
-two_faults false true = other_numbers TYPE_CLASH refl refl
+two_faults true b = other_numbers NO_COLUMN refl refl refl
+two_faults false true = other_numbers TYPE_CLASH refl refl refl
 two_faults false false = tt
 
 three_faults : (a b c : Bool) → IsMildShape (option_map plain (first_that ((a, NO_COLUMN) ∷ (b, KEY_UPDATE) ∷ (c, TYPE_CLASH) ∷ [])))
-three_faults true b c = other_numbers NO_COLUMN refl refl
-three_faults false true c = other_numbers KEY_UPDATE refl refl
-three_faults false false true = other_numbers TYPE_CLASH refl refl
+three_faults true b c = other_numbers NO_COLUMN refl refl refl
+three_faults false true c = other_numbers KEY_UPDATE refl refl refl
+three_faults false false true = other_numbers TYPE_CLASH refl refl refl
 three_faults false false false = tt
 
 mild_shape : (stmt : Stmt) (t : Table) → is_change stmt ≡ true → IsMildShape (shape_over stmt (Some t))
@@ -97,9 +97,9 @@ shape_without (Delete d) h = refl
 shape_without stmt h = absurd (let x : false ≡ true = h in cc)
 
 mild_row_fault : (a b c : Bool) → IsMildFault (first_that ((a, NULL_VALUE) ∷ (b, TEXT_TOO_LONG) ∷ (c, ROW_TOO_LONG) ∷ []))
-mild_row_fault true b c = other_numbers NULL_VALUE refl refl
-mild_row_fault false true c = other_numbers TEXT_TOO_LONG refl refl
-mild_row_fault false false true = other_numbers ROW_TOO_LONG refl refl
+mild_row_fault true b c = other_numbers NULL_VALUE refl refl refl
+mild_row_fault false true c = other_numbers TEXT_TOO_LONG refl refl refl
+mild_row_fault false false true = other_numbers ROW_TOO_LONG refl refl refl
 mild_row_fault false false false = tt
 
 mild_row : (cols : List Column) (row : List Value) → IsMildFault (row_fault cols row)
@@ -108,11 +108,11 @@ mild_row cols row = mild_row_fault (some_cell lacks cols row) (some_cell overflo
 mild_among : (cols : List Column) (keys : List (List Value)) (row : List Value) → IsMildFault (fault_among cols keys row)
 mild_among cols keys row =
     mild_or (new_row_fault cols row) (key_clash keys (key_of cols row))
-    (mild_or (row_fault cols row) (key_fault (key_of cols row)) (mild_row cols row) (mild_if (nat_lt 900 (size_of_values (key_of cols row))) KEY_TOO_LONG (other_numbers KEY_TOO_LONG refl refl)))
-    (mild_if (is_among keys (key_of cols row)) KEY_IS_THERE (other_numbers KEY_IS_THERE refl refl))
+    (mild_or (row_fault cols row) (key_fault (key_of cols row)) (mild_row cols row) (mild_if (nat_lt 900 (size_of_values (key_of cols row))) KEY_TOO_LONG (other_numbers KEY_TOO_LONG refl refl refl)))
+    (mild_if (is_among keys (key_of cols row)) KEY_IS_THERE (other_numbers KEY_IS_THERE refl refl refl))
 
 mild_inserted_row : (cols : List Column) (keys : List (List Value)) (new : Option (List Value)) → IsMild (inserted_row cols keys new)
-mild_inserted_row cols keys None = mild_overflow
+mild_inserted_row cols keys None = mild_number
 mild_inserted_row cols keys (Some row) = mild_unless row (fault_among cols keys row) (mild_among cols keys row)
 
 mild_inserted : (cols : List Column) (keys : List (List Value)) (place : ℕ) (news : List (Option (List Value))) → AreMild (inserted_from cols keys place news)
@@ -122,7 +122,7 @@ mild_inserted cols keys place (new ∷ news) =
     mild_after place outcome (inserted_from cols (with_taken cols keys outcome) (place + 1) news) (mild_inserted_row cols keys new) (mild_inserted cols (with_taken cols keys outcome) (place + 1) news)
 
 mild_right : (cols : List Column) (new : Option (List Value)) → IsMild (if_right cols new)
-mild_right cols None = mild_overflow
+mild_right cols None = mild_number
 mild_right cols (Some row) = mild_unless row (row_fault cols row) (mild_row cols row)
 
 -- WHAT THEY CHANGE

@@ -46,13 +46,13 @@ outside_room v stmt true = other_number v stmt SUSPECT Nothing refl
 outside_room v stmt false = other_number v stmt READ_ONLY Nothing refl
 
 outside_fine : (lost : Bool) → IsNoFailure (Msg (cond lost (plain SUSPECT) (plain READ_ONLY)))
-outside_fine true = no_failure SUSPECT Nothing refl
-outside_fine false = no_failure READ_ONLY Nothing refl
+outside_fine true = no_failure SUSPECT Nothing refl refl
+outside_fine false = no_failure READ_ONLY Nothing refl refl
 
 module _ (v : Shown) (db : Database) where
   pub unbuilt : (stmt : Stmt) → is_built stmt ≡ false → IsPlain stmt (Msg (plain NOT_BUILT)) → Decides v db stmt (now (plain NOT_BUILT))
   unbuilt stmt b simple opening current seen setting means =
-      refuses_only opening opening.source current v seen stmt (AtOnce (Msg (plain NOT_BUILT))) NOT_BUILT Nothing refl refl refl setting simple (unbuilt_comes opening current seen (catalog v) setting.ordered setting.apart db means stmt b)
+      refuses_only opening opening.source current v seen stmt (AtOnce (Msg (plain NOT_BUILT))) NOT_BUILT Nothing refl refl refl refl setting simple (unbuilt_comes opening current seen (catalog v) setting.ordered setting.apart db means stmt b)
 
   pub create_outside : (name : List ℕ) (cols : List Column) → is_home db ≡ false → Decides v db (CreateTable name cols) (now (cond (is_lost (catalog v) db) (plain SUSPECT) (plain READ_ONLY)))
   create_outside name cols out opening current seen setting means =
@@ -78,11 +78,11 @@ module _ (v : Shown) (db : Database) where
 
     pub bad_definition : (name : List ℕ) (cols : List Column) → (length cols == 0) ≡ true → Decides v db (CreateTable name cols) (now (plain BAD_DEFINITION))
     bad_definition name cols e = at_home (CreateTable name cols) (now (plain BAD_DEFINITION)) (λ opening seen setting.
-        refuses_only opening opening.source opening.source v seen (CreateTable name cols) (AtOnce (Msg (plain BAD_DEFINITION))) BAD_DEFINITION Nothing refl refl refl setting tt (bad_comes opening opening.source seen _ refl name cols e))
+        refuses_only opening opening.source opening.source v seen (CreateTable name cols) (AtOnce (Msg (plain BAD_DEFINITION))) BAD_DEFINITION Nothing refl refl refl refl setting tt (bad_comes opening opening.source seen _ refl name cols e))
 
   no_memory : (stmt : Stmt) → is_of_tables stmt ≡ true → IsPlain stmt (Msg (plain NO_MEMORY)) → (opening : Opening) (seen : Seen) → Setting opening opening.source v seen → IsDecision opening opening.source v seen stmt (now (plain NO_MEMORY))
   no_memory stmt of simple opening seen setting =
-      refuses_only opening opening.source opening.source v seen stmt (AtOnce (Msg (plain NO_MEMORY))) NO_MEMORY Nothing refl refl refl setting simple (memory_comes opening opening.source seen (catalog v) setting.ordered setting.apart Source (bytes_same opening.source) stmt of refl)
+      refuses_only opening opening.source opening.source v seen stmt (AtOnce (Msg (plain NO_MEMORY))) NO_MEMORY Nothing refl refl refl refl setting simple (memory_comes opening opening.source seen (catalog v) setting.ordered setting.apart Source (bytes_same opening.source) stmt of refl)
 
   -- a decision in the source, or NO_MEMORY
   pub or_memory : (stmt : Stmt) → is_of_tables stmt ≡ true → IsPlain stmt (Msg (plain NO_MEMORY)) → is_home db ≡ true → (r : Result Decision NoMemory) (x : Decision) →
@@ -100,10 +100,10 @@ same_decision opening current v seen stmt d e is h = subst (λ (x : Decision). I
 -- USE
 module _ (v : Shown) (opening : Opening) (current : List ℕ) (seen : Seen) (setting : Setting opening opening.source v seen) (name : List ℕ) (db : Database) (means : Means opening.source (catalog v) name db) where
   pub enter_absent : is_there db ≡ false → IsDecision opening current v seen (UseDb name) (now (plain NO_DATABASE))
-  enter_absent e = refuses_only opening opening.source current v seen (UseDb name) (AtOnce (Msg (plain NO_DATABASE))) NO_DATABASE Nothing refl refl refl setting tt (use_absent opening current seen (catalog v) setting.ordered setting.apart name db means e)
+  enter_absent e = refuses_only opening opening.source current v seen (UseDb name) (AtOnce (Msg (plain NO_DATABASE))) NO_DATABASE Nothing refl refl refl refl setting tt (use_absent opening current seen (catalog v) setting.ordered setting.apart name db means e)
 
   pub enter_lost : is_there db ≡ true → is_lost (catalog v) db ≡ true → IsDecision opening current v seen (UseDb name) (now (plain SUSPECT))
-  enter_lost e l = refuses_only opening opening.source current v seen (UseDb name) (AtOnce (Msg (plain SUSPECT))) SUSPECT Nothing refl refl refl setting tt (use_lost opening current seen (catalog v) setting.ordered setting.apart name db means e l)
+  enter_lost e l = refuses_only opening opening.source current v seen (UseDb name) (AtOnce (Msg (plain SUSPECT))) SUSPECT Nothing refl refl refl refl setting tt (use_lost opening current seen (catalog v) setting.ordered setting.apart name db means e l)
 
   pub enters : is_there db ≡ true → is_lost (catalog v) db ≡ false → IsDecision opening current v seen (UseDb name) (record { answer = AtOnce Fine; edits = [] })
   enters e l = decides_only opening opening.source current v seen (UseDb name) (AtOnce Fine) setting refl tt tt tt (use_comes opening current seen (catalog v) setting.ordered setting.apart name db means e l)
@@ -115,7 +115,7 @@ simple_select stmt name h = as_select (λ stmt name. IsPlain stmt (Msg (plain NO
 module _ (v : Shown) (db : Database) (s : SelectStmt) where
   pub see_lost : is_lost (catalog v) db ≡ true → Decides v db (Select s) (now (plain SUSPECT))
   see_lost l opening current seen setting means =
-      refuses_only opening opening.source current v seen (Select s) (AtOnce (Msg (plain SUSPECT))) SUSPECT Nothing refl refl refl setting tt
+      refuses_only opening opening.source current v seen (Select s) (AtOnce (Msg (plain SUSPECT))) SUSPECT Nothing refl refl refl refl setting tt
       (select_lost opening current seen (catalog v) setting.ordered setting.apart db means s refl (out db l) (shot db l) l)
     where
       out : (d : Database) → is_lost (catalog v) d ≡ true → is_home d ≡ false
@@ -132,12 +132,12 @@ module _ (v : Shown) (db : Database) (s : SelectStmt) where
 
   pub see_nowhere : is_home db ≡ false → is_shot db ≡ false → Decides v db (Select s) (now (plain NO_TABLE))
   see_nowhere h n opening current seen setting means =
-      refuses_only opening opening.source current v seen (Select s) (AtOnce (Msg (plain NO_TABLE))) NO_TABLE Nothing refl refl refl setting tt
+      refuses_only opening opening.source current v seen (Select s) (AtOnce (Msg (plain NO_TABLE))) NO_TABLE Nothing refl refl refl refl setting tt
       (select_refused opening current seen (catalog v) setting.ordered setting.apart db means s refl h n)
 
 pub broken : (v : Shown) (db : Database) (at : ℕ) → Decides v db (Broken at) (record { answer = AtOnce (Msg (at_place SYNTAX at)); edits = [] })
 broken v db at opening current seen setting means =
-    refuses_only opening opening.source current v seen (Broken at) (AtOnce (Msg (at_place SYNTAX at))) SYNTAX (Number at) refl refl refl setting tt (broken_comes opening current seen (catalog v) setting.ordered setting.apart db means at)
+    refuses_only opening opening.source current v seen (Broken at) (AtOnce (Msg (at_place SYNTAX at))) SYNTAX (Number at) refl refl refl refl setting tt (broken_comes opening current seen (catalog v) setting.ordered setting.apart db means at)
 
 -- a statement of no kind that is built
 pub other : (stmt : Stmt) → ((d : List ℕ) → stmt ≡ UseDb d → ⊥) → ((n : List ℕ) (cols : List Column) → stmt ≡ CreateTable n cols → ⊥) → ((i : InsertStmt) → stmt ≡ Insert i → ⊥) → ((s : SelectStmt) → stmt ≡ Select s → ⊥) → ((u : UpdateStmt) → stmt ≡ Update u → ⊥) → ((d : DeleteStmt) → stmt ≡ Delete d → ⊥)
@@ -150,4 +150,4 @@ other (Update u) a b c e f x g h = absurd (f u refl)
 other (Delete d) a b c e f x g h = absurd (x d refl)
 other (CreateSnap snap files of) a b c e f x g h = absurd (g snap files of refl)
 other (Broken at) a b c e f x g h = absurd (h at refl)
-other stmt a b c e f x g h = (refl, tt)
+other stmt a b c e f x g h = (refl, refl)

@@ -20,7 +20,7 @@ use Rattle.plain_model.specs.State.{Plain, Snap, session, is_suspect, is_source,
 use Rattle.plain_model.specs.Holding.{holds}
 use Rattle.plain_model.specs.Messages.{plain}
 use Rattle.plain_model.specs.Meaning.{shape, change_and_reply}
-use Rattle.plain_model.specs.Next.{Next, Replies, Wants, unless, unless_shape, under, answers, no_write, next_built, next_change, next_of, is_built}
+use Rattle.plain_model.specs.Next.{Next, Replies, Wants, unless, unless_shape, under, answers, no_write, next_stmt, next_change, next_of, is_built}
 use Rattle.plain_model.specs.Statements.{table_named}
 use Rattle.early_engine.specs.Changing.{is_change}
 use Rattle.plain_model.specs.Free.{NoRoom, may_grow, is_success}
@@ -33,7 +33,7 @@ use Rattle.early_engine.proofs.PushLemmas.{bytes_same}
 pub not_built : (st : Plain) (k : ℕ) (stmt : Stmt) → is_built stmt ≡ false → next_of st k (Some stmt) ≡ Replies (Msg (plain NOT_BUILT))
 not_built st k stmt b = rw b refl
 
-pub built : (st : Plain) (k : ℕ) (stmt : Stmt) → is_built stmt ≡ true → next_of st k (Some stmt) ≡ next_built st k stmt
+pub built : (st : Plain) (k : ℕ) (stmt : Stmt) → is_built stmt ≡ true → next_of st k (Some stmt) ≡ next_stmt st k stmt
 built st k stmt b = rw b refl
 
 module _ (opening : Opening) (current : List ℕ) (seen : Seen) (st : Plain) (k : ℕ) (locks : Locks) (ready : Ready opening current seen st k locks) where
@@ -75,10 +75,10 @@ shared name mode = refl
 pub record IsOfTable (stmt : Stmt) (table : List ℕ) (mode : Mode) : Type 0 where
   pub built : is_built stmt ≡ true
   pub next : (opening : Opening) (current : List ℕ) (seen : Seen) (st : Plain) (k : ℕ) (locks : Locks) → Ready opening current seen st k locks → current ≡ opening.source →
-      next_built st k stmt ≡ under st k All S (unless_shape (shape stmt seen.source) (under st k (Table table) mode (answers stmt seen.source)))
+      next_stmt st k stmt ≡ under st k All S (unless_shape (shape stmt seen.source) (under st k (Table table) mode (answers stmt seen.source)))
 
 -- a change of rows is a write of its table
-next_change_is : (st : Plain) (k : ℕ) (stmt : Stmt) → is_change stmt ≡ true → next_built st k stmt ≡ next_change st k stmt (table_named stmt)
+next_change_is : (st : Plain) (k : ℕ) (stmt : Stmt) → is_change stmt ≡ true → next_stmt st k stmt ≡ next_change st k stmt (table_named stmt)
 next_change_is st k (Insert i) h = refl
 next_change_is st k (Update u) h = refl
 next_change_is st k (Delete d) h = refl

@@ -15,7 +15,7 @@ use Rattle.plain_model.specs.declared.reply.Reply.TheVariants.{Msg}
 use Rattle.plain_model.specs.declared.reply.TheConstants.Message.{DATABASE_IS_THERE, FILE_LIST, NOT_THE_SOURCE, NO_DATABASE}
 use Rattle.plain_model.specs.Journal.{Opening}
 use Rattle.plain_model.specs.State.{Session, session, is_source, is_restoring, fresh_session}
-use Rattle.plain_model.specs.Messages.{plain}
+use Rattle.plain_model.specs.Messages.{plain, first_that}
 use Rattle.plain_model.specs.Next.{Next, Replies, Cuts, unless, is_database, is_each_once, is_taken, is_full, logical_names, no_snap, no_room, next_snap, next_of}
 use Rattle.plain_model.specs.Next as next
 use Rattle.plain_model.specs.Free.{IsMaking, NoMemoryToCut, FileFailed, NameTaken, is_doubtful}
@@ -37,14 +37,14 @@ or_false : (b : Bool) → (b || false) ≡ b
 or_false true = refl
 or_false false = refl
 
--- refusals that let one thing pass let all pass
-pub all_pass : (rs : List (Bool × Message)) (snap : List ℕ) (n : Next) → unless rs (Cuts snap) ≡ Cuts snap → unless rs n ≡ n
-all_pass [] snap n h = refl
-all_pass (r ∷ rs) snap n h = elim (cases_Bool r.0) [
-  | inl t ↦ absurd (let x : Replies (Msg r.1) ≡ Cuts snap = ap (λ b. cond b (Replies (Msg r.1)) (unless rs (Cuts snap))) (sym t) ∙ h in cc)
+-- where no refusal applies the rest comes
+pub all_pass : (rs : List (Bool × Message)) (n : Next) → first_that rs ≡ None → unless rs n ≡ n
+all_pass [] n h = refl
+all_pass (r ∷ rs) n h = elim (cases_Bool r.0) [
+  | inl t ↦ absurd (let x : Some r.1 ≡ None = ap (λ b. cond b (Some r.1) (first_that rs)) (sym t) ∙ h in cc)
   | inr f ↦
-      let rest : unless rs (Cuts snap) ≡ Cuts snap = ap (λ b. cond b (Replies (Msg r.1)) (unless rs (Cuts snap))) (sym f) ∙ h in
-      ap (λ b. cond b (Replies (Msg r.1)) (unless rs n)) f ∙ all_pass rs snap n rest
+      let rest : first_that rs ≡ None = ap (λ b. cond b (Some r.1) (first_that rs)) (sym f) ∙ h in
+      ap (λ b. cond b (Replies (Msg r.1)) (unless rs n)) f ∙ all_pass rs n rest
 ]
 
 module _ (source file : List ℕ) (disk : Disk) (v : Shown) (snap : List ℕ) (files : List SnapFile) (of : List ℕ) (e : Run) (i : ℕ) (asked : IsAsked source file disk v (CreateSnap snap files of) e i) where
@@ -120,11 +120,21 @@ module _ (source file : List ℕ) (disk : Disk) (v : Shown) (snap : List ℕ) (f
       refused_list holds there lacks = inl (start ∙ names_say _ ∙ (rw (holds, there, lacks) refl))
 
       pub passing : is_there from ≡ true → is_home from ≡ true → is_each_once (logical_names files) (file ∷ []) ≡ true → IsMaking (state e) (i + 1) snap files of
-      passing holds there once = record { before = unmade; passes = names_say (Cuts snap) ∙ (rw (holds, there, once) refl) }
+      passing holds there once = record {
+        before = unmade;
+        passes =
+            let d = outside in
+            let t = there_new ∙ free in
+            let s = settled in
+            let f = there_from ∙ holds in
+            let h = home_from ∙ there in
+            let l = listed ∙ once in
+            rw (d, t, s, f, h, l) refl;
+      }
 
   module _ (making : IsMaking (state e) (i + 1) snap files of) (path : List ℕ) (one : next.sparse_names files ≡ path ∷ []) where
     past : next_of (state e) (i + 1) (Some stmt) ≡ unless (no_room (state e) files) (Cuts snap)
-    past = start ∙ all_pass (no_snap (state e) (i + 1) snap files of) snap (unless (no_room (state e) files) (Cuts snap)) making.passes
+    past = start ∙ all_pass (no_snap (state e) (i + 1) snap files of) (unless (no_room (state e) files) (Cuts snap)) making.passes
 
     taken_is : is_taken (state e) (next.sparse_names files) ≡ list_any (bytes_eq path) (state e).on_volume
     taken_is = ap (is_taken (state e)) one ∙ or_false (list_any (bytes_eq path) (state e).on_volume || false) ∙ or_false (list_any (bytes_eq path) (state e).on_volume)

@@ -357,4 +357,4 @@ refused_room ns old new reply r = subst IsNoShortage (sym r.is) (λ e. eqb-false
 
 -- and says only where it is so that the volume failed
 pub refused_volume : (names : List (List ℕ)) (old new : Disk) (reply : Reply) → Refuses names old new reply → IsVolumeReply old.failures new.failures reply
-refused_volume ns old new reply r = subst (IsVolumeReply old.failures new.failures) (sym r.is) (λ e. r.cause (ap (λ n. n == FILE_FAILED) e))
+refused_volume ns old new reply r = subst (IsVolumeReply old.failures new.failures) (sym r.is) (r.early, λ e. r.cause (ap (λ n. n == FILE_FAILED) e))

@@ -35,7 +35,7 @@ use Rattle.table_pages.specs.Plans.{Plans}
 use Rattle.early_engine.specs.declared.answer.Answer.{Answer}
 use Rattle.early_engine.specs.declared.answer.Answer.TheVariants.{AtOnce, UnderAll, UnderTable}
 use Rattle.early_engine.specs.declared.decision.Decision.{Decision}
-use Rattle.early_engine.specs.Causes.{IsForRows, IsRoomReply, IsNoFailure}
+use Rattle.early_engine.specs.Causes.{IsForRows, IsRoomReply, IsNoFailure, is_early}
 use Rattle.early_engine.specs.Changing.{is_change}
 use Rattle.early_engine.specs.Deciding.{Setting, IsDecision, IsStill, IsShort}
 use Rattle.early_engine.specs.Pushing.{snaps_of}
@@ -78,15 +78,15 @@ decides_only opening source current v seen stmt answer setting same simple room 
 pub other_number : (v : Shown) (stmt : Stmt) (n : ℕ) (carried : Carried) → (n == NO_ROOM) ≡ false → IsRoomReply v stmt (Msg (record { number = n; carried = carried }))
 other_number v stmt n carried e = λ is. absurd (eqb-false n NO_ROOM e is)
 
-pub no_failure : (n : ℕ) (carried : Carried) → (n == FILE_FAILED) ≡ false → IsNoFailure (Msg (record { number = n; carried = carried }))
-no_failure n carried e = λ is. eqb-false n FILE_FAILED e is
+pub no_failure : (n : ℕ) (carried : Carried) → is_early n ≡ false → (n == FILE_FAILED) ≡ false → IsNoFailure (Msg (record { number = n; carried = carried }))
+no_failure n carried early e = (early, λ is. eqb-false n FILE_FAILED e is)
 
 -- a refusal that carries nothing, or a place, of a number that asks for no cause
-pub refuses_only : (opening : Opening) (source current : List ℕ) (v : Shown) (seen : Seen) (stmt : Stmt) (answer : Answer) (n : ℕ) (carried : Carried) → reply_of answer ≡ Msg (record { number = n; carried = carried }) → (n == NO_ROOM) ≡ false → (n == FILE_FAILED) ≡ false →
+pub refuses_only : (opening : Opening) (source current : List ℕ) (v : Shown) (seen : Seen) (stmt : Stmt) (answer : Answer) (n : ℕ) (carried : Carried) → reply_of answer ≡ Msg (record { number = n; carried = carried }) → (n == NO_ROOM) ≡ false → is_early n ≡ false → (n == FILE_FAILED) ≡ false →
     Setting opening source v seen → IsPlain stmt (reply_of answer) → Comes opening current seen (snaps_of v) stmt answer → IsDecision opening current v seen stmt (record { answer = answer; edits = [] })
-refuses_only opening source current v seen stmt answer n carried is r f setting simple comes =
+refuses_only opening source current v seen stmt answer n carried is r early f setting simple comes =
     decides_only opening source current v seen stmt answer setting (ap (λ (x : Reply). tables_after stmt x seen.source) is) simple
-    (subst (λ (x : Reply). IsRoomReply v stmt x) (sym is) (other_number v stmt n carried r)) (subst IsNoFailure (sym is) (no_failure n carried f)) comes
+    (subst (λ (x : Reply). IsRoomReply v stmt x) (sym is) (other_number v stmt n carried r)) (subst IsNoFailure (sym is) (no_failure n carried early f)) comes
 
 -- a definition has columns
 pub some_columns : (cols : List Column) → is_definition cols ≡ true → (length cols == 0) ≡ false
@@ -98,11 +98,11 @@ module _ (opening : Opening) (v : Shown) (seen : Seen) (setting : Setting openin
 
   module _ (name : List ℕ) (cols : List Column) (definition : is_definition cols ≡ true) where
     pub create_taken : (t : Table) → finite.get seen.source name ≡ Some t → IsDecision opening opening.source v seen (CreateTable name cols) (record { answer = UnderAll X (Msg (plain TABLE_IS_THERE)); edits = [] })
-    create_taken t there = refuses_only opening opening.source opening.source v seen (CreateTable name cols) (UnderAll X (Msg (plain TABLE_IS_THERE))) TABLE_IS_THERE Nothing refl refl refl setting tt
+    create_taken t there = refuses_only opening opening.source opening.source v seen (CreateTable name cols) (UnderAll X (Msg (plain TABLE_IS_THERE))) TABLE_IS_THERE Nothing refl refl refl refl setting tt
         (taken_comes opening opening.source seen (snaps_of v) refl name cols (some_columns cols definition) (plain TABLE_IS_THERE) (ap is_new there))
 
     pub create_full : finite.get seen.source name ≡ None → LacksPage v name cols → IsDecision opening opening.source v seen (CreateTable name cols) (record { answer = UnderAll X (Msg (plain NO_ROOM)); edits = [] })
-    create_full none lacks = decides_only opening opening.source opening.source v seen (CreateTable name cols) (UnderAll X (Msg (plain NO_ROOM))) setting refl tt (λ _. lacks) (no_failure NO_ROOM Nothing refl)
+    create_full none lacks = decides_only opening opening.source opening.source v seen (CreateTable name cols) (UnderAll X (Msg (plain NO_ROOM))) setting refl tt (λ _. lacks) (no_failure NO_ROOM Nothing refl refl)
         (full_comes opening opening.source seen (snaps_of v) refl name cols (some_columns cols definition) (ap is_new none))
 
     pub create_made : (e : Edit) → finite.get seen.source name ≡ None → (LacksPage v name cols → ⊥) → Carries v (e ∷ []) (applied (Add name cols) seen.source) → IsDecision opening opening.source v seen (CreateTable name cols) (record { answer = UnderAll X Ok; edits = e ∷ [] })
@@ -120,7 +120,7 @@ module _ (opening : Opening) (v : Shown) (seen : Seen) (setting : Setting openin
 
   module _ (s : SelectStmt) where
     pub select_none : finite.get seen.source s.table ≡ None → IsDecision opening opening.source v seen (Select s) (record { answer = UnderAll S (Msg (plain NO_TABLE)); edits = [] })
-    select_none none = refuses_only opening opening.source opening.source v seen (Select s) (UnderAll S (Msg (plain NO_TABLE))) NO_TABLE Nothing refl refl refl setting tt
+    select_none none = refuses_only opening opening.source opening.source v seen (Select s) (UnderAll S (Msg (plain NO_TABLE))) NO_TABLE Nothing refl refl refl refl setting tt
         (shape_comes opening opening.source seen (snaps_of v) refl (Select s) s.table S (of_select s refl) (plain NO_TABLE) (ap (shape_over (Select s)) none))
 
     module _ (t : Table) (there : finite.get seen.source s.table ≡ Some t) where
@@ -152,7 +152,7 @@ Planned v i name t cut put plan =
 
 module _ (opening : Opening) (v : Shown) (seen : Seen) (setting : Setting opening opening.source v seen) (stmt : Stmt) (h : is_change stmt ≡ true) where
   pub change_none : finite.get seen.source (table_named stmt) ≡ None → IsDecision opening opening.source v seen stmt (record { answer = UnderAll S (Msg (plain NO_TABLE)); edits = [] })
-  change_none none = refuses_only opening opening.source opening.source v seen stmt (UnderAll S (Msg (plain NO_TABLE))) NO_TABLE Nothing refl refl refl setting (change_plain stmt (Msg (plain NO_TABLE)) h)
+  change_none none = refuses_only opening opening.source opening.source v seen stmt (UnderAll S (Msg (plain NO_TABLE))) NO_TABLE Nothing refl refl refl refl setting (change_plain stmt (Msg (plain NO_TABLE)) h)
       (shape_comes opening opening.source seen (snaps_of v) refl stmt (table_named stmt) X (of_change stmt h) (plain NO_TABLE) (ap (shape_over stmt) none ∙ shape_without stmt h))
 
   module _ (t : Table) (there : finite.get seen.source (table_named stmt) ≡ Some t) where
@@ -229,7 +229,7 @@ module _ (opening : Opening) (v : Shown) (seen : Seen) (setting : Setting openin
       full_here short = elim filled [
         | FillsPuts grows none reply ↦
             decides_only opening opening.source opening.source v seen stmt (UnderTable (table_named stmt) X (Msg (plain NO_ROOM))) setting refl (change_plain stmt (Msg (plain NO_ROOM)) h)
-            (λ _. lacks_place v stmt h grows (i, effect.puts, for_rows none, short_of none short)) (no_failure NO_ROOM Nothing refl)
+            (λ _. lacks_place v stmt h grows (i, effect.puts, for_rows none, short_of none short)) (no_failure NO_ROOM Nothing refl refl)
             (room_comes opening opening.source seen (snaps_of v) refl stmt (table_named stmt) X (of_change stmt h) (Count (length effect.puts)) shaped grows refl (replies ∙ reply))
         | FillsCuts grows none reply ↦ absurd (always_cut t.cols effect.cuts effect.puts (content (img v (place i))) none short)
         | FillsNone m mild no_puts no_cuts reply ↦ absurd (always_cut t.cols effect.cuts effect.puts (content (img v (place i))) no_puts short)

@@ -1,5 +1,5 @@
 -- No name is both on the volume and in doubt, whatever the plain machine has come to.
-use Rattle.std.proofs.Common.{◌≡◌, ℕ, Bool, true, false, ◌&&◌, ◌||◌, not, cond, List, [], ◌∷◌, ◌++◌, refl, ap, sym, ◌∙◌, inl, inr}
+use Rattle.std.proofs.Common.{◌≡◌, ℕ, ◌-◌, nat_le, Bool, true, false, ◌&&◌, ◌||◌, not, cond, List, [], ◌∷◌, ◌++◌, refl, ap, sym, ◌∙◌, inl, inr}
 use Rattle.std.specs.Prelude.{Option, Some, None, ◌==◌}
 use Rattle.std.specs.List.{list_any}
 use Rattle.std.specs.Str.{bytes_eq}
@@ -7,19 +7,19 @@ use Rattle.std.proofs.lemmas.Bool.{cases_Bool}
 use Rattle.std.proofs.lemmas.List.Folds.{list_any-append}
 use Rattle.std.proofs.lemmas.Slice.Eq.{bytes_eq-Decides}
 use Rattle.plain_model.specs.declared.stmt.Stmt.{Stmt}
-use Rattle.plain_model.specs.declared.stmt.Stmt.TheVariants.{CreateTable, Insert, Update, Delete, CreateSnap}
+use Rattle.plain_model.specs.declared.stmt.Stmt.TheVariants.{CreateTable, DropTable, Insert, Update, Delete, Commit, CreateSnap, DropDb}
 use Rattle.plain_model.specs.declared.event.Event.{Event}
 use Rattle.plain_model.specs.declared.event.Event.TheVariants.{Locked, CutAt, RestoreAt, Turned, Said, Left}
 use Rattle.plain_model.specs.declared.reply.Message.{Message}
 use Rattle.plain_model.specs.declared.reply.Reply.{Reply}
 use Rattle.plain_model.specs.declared.reply.Reply.TheVariants.{Ok, Count, Rows, Msg}
-use Rattle.plain_model.specs.declared.reply.TheConstants.Message.{FILE_FAILED}
+use Rattle.plain_model.specs.declared.reply.TheConstants.Message.{FILE_FAILED, FILE_NOT_REMOVED, LOG_FAILED, NO_MEMORY}
 use Rattle.plain_model.specs.Tables.{Change}
 use Rattle.plain_model.specs.Journal.{Opening, Committed}
 use Rattle.plain_model.specs.Next.{sparse_names}
-use Rattle.plain_model.specs.State.{Plain, start, session, see, stmt_of}
+use Rattle.plain_model.specs.State.{Plain, start, session, see, stmt_of, files_of}
 use Rattle.plain_model.specs.Meaning.{change_and_reply}
-use Rattle.plain_model.specs.Legal.{after, end_from, end, effect, unmade, with_doubt, with_changes, with_session, without_made, without_names, new_names}
+use Rattle.plain_model.specs.Legal.{after, end_from, end, effect, unmade, with_doubt, with_changes, with_session, outside, after_commit, uncommitted, dropped, undropped, without_snap, without_made, without_names, new_names}
 
 -- whether a list has the name
 abbrev pub has : List ℕ → List (List ℕ) → Bool
@@ -49,8 +49,20 @@ abbrev pub AreKnown : Plain → Type 0
 AreKnown st = (n : List ℕ) → has n st.in_doubt ≡ true → has n st.on_volume ≡ false
 
 changes_known : (st : Plain) (k : ℕ) (cs : List Change) → AreKnown st → AreKnown (with_changes st k cs)
-changes_known st k [] h = h
-changes_known st k (c ∷ cs) h = elim ((session st k).depth == 0) as (λ b. AreKnown (cond b (record st { journal = Committed k (c ∷ cs) ∷ st.journal }) (with_session st k (record (session st k) { work = (session st k).work ++ c ∷ cs })))) [ true ↦ h | false ↦ h ]
+changes_known st k cs h = elim ((session st k).depth == 0) as (λ b. AreKnown (cond b (record st { journal = Committed k cs ∷ st.journal }) (with_session st k (record (session st k) { work = (session st k).work ++ cs })))) [ true ↦ h | false ↦ h ]
+
+commit_known : (st : Plain) (k : ℕ) → AreKnown st → AreKnown (after_commit st k)
+commit_known st k h =
+    let s = session st k in
+    elim (nat_le 2 s.depth) as (λ b. AreKnown (cond b (with_session st k (record s { depth = s.depth - 1 })) (record (with_session st k (outside s)) { journal = Committed k s.work ∷ st.journal }))) [ true ↦ h | false ↦ h ]
+
+uncommitted_known : (st : Plain) (k : ℕ) (m : Message) → AreKnown st → AreKnown (uncommitted st k m)
+uncommitted_known st k m h = elim (m.number == NO_MEMORY || m.number == LOG_FAILED) as (λ b. AreKnown (cond b (with_session st k (outside (session st k))) st)) [ true ↦ h | false ↦ h ]
+
+dropped_known : (st : Plain) (d : List ℕ) → AreKnown st → AreKnown (dropped st d)
+dropped_known st d h n there =
+    let out = h n there in
+    has_without n (files_of st d) st.on_volume ∙ (rw out (elim (not (has n (files_of st d))) as (λ b. (b && false) ≡ false) [ true ↦ refl | false ↦ refl ]))
 
 doubt_known : (st : Plain) (names : List (List ℕ)) → AreKnown st → AreKnown (with_doubt st names)
 doubt_known st names h n there =
@@ -71,8 +83,25 @@ unmade_known st k names m h = elim (m.number == FILE_FAILED) as (λ b. AreKnown 
   | false ↦ h
 ]
 
+undropped_known : (st : Plain) (d : List ℕ) (m : Message) → AreKnown st → AreKnown (undropped st d m)
+undropped_known st d m h = elim (m.number == FILE_NOT_REMOVED) as (λ b. AreKnown (cond b (with_doubt (without_snap st d) (files_of st d)) st)) [
+  | true ↦ doubt_known (without_snap st d) (files_of st d) h
+  | false ↦ h
+]
+
 effect_known : (st : Plain) (k : ℕ) (stmt : Option Stmt) (reply : Reply) → AreKnown st → AreKnown (effect st k stmt reply)
 effect_known st k (Some (CreateSnap snap files of)) (Msg m) h = unmade_known st k (sparse_names files) m h
+effect_known st k (Some Commit) (Msg m) h = uncommitted_known st k m h
+effect_known st k (Some Commit) Ok h = commit_known st k h
+effect_known st k (Some Commit) (Count n) h = commit_known st k h
+effect_known st k (Some Commit) (Rows rs) h = commit_known st k h
+effect_known st k (Some (DropDb d)) (Msg m) h = undropped_known st d m h
+effect_known st k (Some (DropDb d)) Ok h = dropped_known st d h
+effect_known st k (Some (DropDb d)) (Count n) h = dropped_known st d h
+effect_known st k (Some (DropDb d)) (Rows rs) h = dropped_known st d h
+effect_known st k (Some (DropTable name)) Ok h = changes_known st k (change_and_reply (DropTable name) (see st k)).0 h
+effect_known st k (Some (DropTable name)) (Count n) h = changes_known st k (change_and_reply (DropTable name) (see st k)).0 h
+effect_known st k (Some (DropTable name)) (Rows rs) h = changes_known st k (change_and_reply (DropTable name) (see st k)).0 h
 effect_known st k (Some (CreateTable name cols)) Ok h = changes_known st k (change_and_reply (CreateTable name cols) (see st k)).0 h
 effect_known st k (Some (CreateTable name cols)) (Count n) h = changes_known st k (change_and_reply (CreateTable name cols) (see st k)).0 h
 effect_known st k (Some (CreateTable name cols)) (Rows rs) h = changes_known st k (change_and_reply (CreateTable name cols) (see st k)).0 h

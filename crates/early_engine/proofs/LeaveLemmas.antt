@@ -90,7 +90,7 @@ module _ (e : Run) (safe : Safe e) (i : ℕ) (lt : i < length e.scripts) (here :
     more = refl;
     moment = seated_here.since;
     now = let o = seated_here.old in let l = longer in omega (arith, o, l);
-    sessions = ap (λ (st : Plain). st.sessions) leads ∙ ap (λ (s : Session). set (state e).sessions (i + 1 - 1) (record s { current = master; depth = 0; work = []; locks = []; gone = true })) here_is;
+    sessions = ap (λ (st : Plain). st.sessions) leads ∙ ap (λ (s : Session). set (state e).sessions (i + 1 - 1) (record s { current = master; depth = 0; work = []; locks = []; gained = []; gone = true })) here_is;
     said = omega (arith, all);
     gone = λ h. all;
     marks = marks_more;

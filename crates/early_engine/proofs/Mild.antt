@@ -1,4 +1,4 @@
--- Refusals of rows ask for no cause: none says that there is no room, or that the volume failed.
+-- Refusals of rows ask for no cause: none says that there is no room, or that a device failed.
 use Rattle.std.proofs.Common.{◌≡◌, ◌≢◌, ℕ, ◌+◌, Bool, true, false, cond, List, [], ◌∷◌, map, refl}
 use Rattle.std.specs.Prelude.{◌==◌, Option, Some, None}
 use Rattle.std.specs.Option.{option_or}
@@ -10,21 +10,21 @@ use Rattle.plain_model.specs.declared.reply.Message.{Message}
 use Rattle.plain_model.specs.declared.reply.Reply.{Reply}
 use Rattle.plain_model.specs.declared.reply.TheConstants.Message.{FILE_FAILED, NO_ROOM, OVERFLOW}
 use Rattle.plain_model.specs.Outcomes.{Outcome, Refused, Passed, Taken, after_row, taken_from, or_overflow, behind, unless_fault}
-use Rattle.early_engine.specs.Causes.{IsNoShortage, IsNoFailure}
+use Rattle.early_engine.specs.Causes.{IsNoShortage, IsNoFailure, is_early}
 
--- the reply says neither that there is no room nor that the volume failed
+-- the reply says neither that there is no room nor that a device failed
 abbrev pub IsHarmless : Reply → Type 0
 IsHarmless reply = IsNoShortage reply × IsNoFailure reply
 
 -- neither does a message of this number
 abbrev pub IsMildNumber : ℕ → Type 0
-IsMildNumber n = (n ≢ NO_ROOM) × (n ≢ FILE_FAILED)
+IsMildNumber n = (n ≢ NO_ROOM) × ((is_early n ≡ false) × (n ≢ FILE_FAILED))
 
-pub other_numbers : (n : ℕ) → (n == NO_ROOM) ≡ false → (n == FILE_FAILED) ≡ false → IsMildNumber n
-other_numbers n room volume = (eqb-false n NO_ROOM room, eqb-false n FILE_FAILED volume)
+pub other_numbers : (n : ℕ) → (n == NO_ROOM) ≡ false → is_early n ≡ false → (n == FILE_FAILED) ≡ false → IsMildNumber n
+other_numbers n room early volume = (eqb-false n NO_ROOM room, (early, eqb-false n FILE_FAILED volume))
 
-pub mild_overflow : IsMildNumber OVERFLOW
-mild_overflow = other_numbers OVERFLOW refl refl
+pub mild_number : IsMildNumber OVERFLOW
+mild_number = other_numbers OVERFLOW refl refl refl
 
 -- a fault, where there is one
 abbrev pub IsMildFault : Option ℕ → Type 0
@@ -51,11 +51,11 @@ AreMild (result.Ok taken) = Unit {0}
 AreMild (result.Err m) = IsMildNumber m.number
 
 pub mild_overflow : {X : Type 0} (x : Option X) → IsMild (or_overflow x)
-mild_overflow None = mild_overflow
+mild_overflow None = mild_number
 mild_overflow (Some x) = tt
 
 pub mild_behind : {X : Type 0} (kept : Option Bool) (outcome : Outcome X) → IsMild outcome → IsMild (behind kept outcome)
-mild_behind None outcome h = mild_overflow
+mild_behind None outcome h = mild_number
 mild_behind (Some true) outcome h = h
 mild_behind (Some false) outcome h = tt
 

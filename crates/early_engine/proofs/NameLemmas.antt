@@ -27,6 +27,7 @@ use Rattle.page_dev.proofs.OutLemmas.{put_back}
 use Rattle.early_pages.specs.Catalog.{Snap, no_snap}
 use Rattle.early_pages.specs.Shown.{Shown}
 use Rattle.std.proofs.lemmas.List.Folds.{list_any-append}
+use Rattle.early_engine.specs.Causes.{is_early}
 use Rattle.early_engine.specs.Entering as kept
 use Rattle.early_engine.specs.Safe.{Disk}
 use Rattle.early_engine.specs.Creating.{Reason, VolumeFailed, HasFile, HasNoPlace, HasNoMemory, Refuses, GivesBack, Makes, cut_events}
@@ -164,6 +165,7 @@ refused_back path old mid new reply told fresh made out unused later file_later 
         | inr f ↦ later_rose old.failures mid.failures new.failures later f.1
       ];
       roomy = elim back.either [ inl seven ↦ ap (λ n. n == NO_ROOM) seven | inr f ↦ ap (λ n. n == NO_ROOM) f.0 ];
+      early = elim back.either [ inl seven ↦ ap is_early seven | inr f ↦ ap is_early f.0 ];
       failures = let a = back.failures in omega (arith, a, later);
       file_failures = let a = back.file_failures in omega (arith, a, file_later);
     }
@@ -183,6 +185,7 @@ refused_failed path old mid new reply is told told' opens others out out' rose l
   out = out' ∙ out;
   cause = λ y. rose_later old.failures mid.failures new.failures rose later';
   roomy = refl;
+  early = refl;
   failures = omega (arith, later, later');
   file_failures = omega (arith, file_later, file_later');
 }
@@ -197,6 +200,7 @@ refuses_none names old new reply r = record {
   out = r.out;
   cause = r.cause;
   roomy = r.roomy;
+  early = r.early;
   failures = r.failures;
   file_failures = r.file_failures;
 }
@@ -212,6 +216,7 @@ module _ (old mid : Disk) (told : mid.told ≡ old.told) (folder : IsTrue old.to
     out = r.out ∙ out;
     cause = λ y. later_rose old.failures mid.failures new.failures later (r.cause y);
     roomy = r.roomy;
+    early = r.early;
     failures = let a = r.failures in omega (arith, a, later);
     file_failures = let a = r.file_failures in omega (arith, a, file_later);
   }

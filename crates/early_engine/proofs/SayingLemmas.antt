@@ -53,7 +53,7 @@ short_stays old new (Rows rs) edits h still = tt
 
 -- a reply that doesn't say that the volume failed
 pub unfailing : (before now : ℕ) (r : Reply) → IsNoFailure r → IsVolumeReply before now r
-unfailing before now (Msg m) h = λ is. absurd (h is)
+unfailing before now (Msg m) h = (h.0, λ is. absurd (h.1 is))
 unfailing before now Ok h = tt
 unfailing before now (Count n) h = tt
 unfailing before now (Rows rs) h = tt
@@ -87,7 +87,7 @@ no_reply k old new (Left w) h = refl
 
 -- where the reply says that the volume failed its count rose
 blamed_last : (before now : ℕ) (w : SessNo) (n b : ℕ) (r : Reply) → IsVolumeReply before now r → list_any is_failure (Said w n b r ∷ []) ≡ true → Rose before now
-blamed_last before now w n b (Msg m) h t = elim (either (m.number == FILE_FAILED) false t) [ inl e ↦ h (eqb-true m.number FILE_FAILED e) | inr e ↦ absurd (let x : false ≡ true = e in cc) ]
+blamed_last before now w n b (Msg m) h t = elim (either (m.number == FILE_FAILED) false t) [ inl e ↦ h.1 (eqb-true m.number FILE_FAILED e) | inr e ↦ absurd (let x : false ≡ true = e in cc) ]
 blamed_last before now w n b Ok h t = absurd (let x : false ≡ true = t in cc)
 blamed_last before now w n b (Count c) h t = absurd (let x : false ≡ true = t in cc)
 blamed_last before now w n b (Rows rs) h t = absurd (let x : false ≡ true = t in cc)

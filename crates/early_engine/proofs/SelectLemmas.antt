@@ -30,14 +30,14 @@ use Rattle.early_pages.specs.Shown.{Shown}
 use Rattle.early_engine.specs.Causes.{IsNoShortage, IsRoomReply}
 use Rattle.early_engine.specs.Seeing.{unless_refused, replied, IsSelect}
 use Rattle.early_engine.specs.Stepping.{tables_after}
-use Rattle.early_engine.proofs.Mild.{IsHarmless, IsMild, AreMild, other_numbers, mild_overflow, mild_overflow, mild_behind, mild_rows}
+use Rattle.early_engine.proofs.Mild.{IsHarmless, IsMild, AreMild, other_numbers, mild_number, mild_overflow, mild_behind, mild_rows}
 
 harmless_rows : (cols : List Column) (order : List OrderItem) (taken : Result (List (List Value × List Value)) Message) → AreMild taken → IsHarmless (rows_reply cols order taken)
 harmless_rows cols order (result.Ok taken) h = (tt, tt)
 harmless_rows cols order (result.Err m) h = h
 
 harmless_row : (values : Option (List Value)) → IsHarmless (totals_row values)
-harmless_row None = mild_overflow
+harmless_row None = mild_number
 harmless_row (Some values) = (tt, tt)
 
 harmless_totals : (cols : List Column) (sums : List Sum) (taken : Result (List (List Value)) Message) → AreMild taken → IsHarmless (totals_reply cols sums taken)
@@ -65,8 +65,8 @@ harmless_selected (Sums ss) filter order t =
     harmless_totals t.cols ss (taken_from 1 (map (summed_row ss filter t.cols) (rows_of t))) (mild_rows (summed_row ss filter t.cols) (mild_summed ss filter t.cols) 1 (rows_of t))
 
 harmless_shape : (lost ill : Bool) (reply : Reply) → IsHarmless reply → IsHarmless (unless_refused (option_map plain (first_that ((lost, NO_COLUMN) ∷ (ill, TYPE_CLASH) ∷ []))) reply)
-harmless_shape true ill reply h = other_numbers NO_COLUMN refl refl
-harmless_shape false true reply h = other_numbers TYPE_CLASH refl refl
+harmless_shape true ill reply h = other_numbers NO_COLUMN refl refl refl
+harmless_shape false true reply h = other_numbers TYPE_CLASH refl refl refl
 harmless_shape false false reply h = h
 
 -- what a SELECT answers over a table

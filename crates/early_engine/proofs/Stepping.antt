@@ -8,18 +8,21 @@ use Rattle.std.proofs.lemmas.List.{get_or-set_same, get_or-set_other, set-set, s
 use Rattle.page_base.specs.declared.numbers.Mode.{Mode}
 use Rattle.page_base.specs.declared.numbers.Mode.TheVariants.{S}
 use Rattle.plain_model.specs.declared.stmt.Stmt.{Stmt}
-use Rattle.plain_model.specs.declared.stmt.Stmt.TheVariants.{UseDb, CreateTable, Insert, Update, Delete, CreateSnap}
+use Rattle.plain_model.specs.declared.stmt.Stmt.TheVariants.{UseDb, CreateTable, DropTable, Insert, Update, Delete, BeginTran, Commit, Rollback, LockTimeoutZero, SetLevel, CreateSnap, DropDb, Restore}
 use Rattle.plain_model.specs.declared.event.Event.{Event}
 use Rattle.plain_model.specs.declared.event.Event.TheVariants.{Locked, Said}
 use Rattle.plain_model.specs.declared.event.LockName.{LockName}
 use Rattle.plain_model.specs.declared.event.LockName.TheVariants.{All, Table}
 use Rattle.plain_model.specs.declared.reply.Reply.{Reply}
 use Rattle.plain_model.specs.declared.reply.Reply.TheVariants.{Ok, Count, Rows, Msg}
+use Rattle.plain_model.specs.declared.reply.TheConstants.Message.{NOT_BUILT}
+use Rattle.plain_model.specs.Messages.{plain}
 use Rattle.plain_model.specs.Tables.{Change, Tables, apply}
 use Rattle.plain_model.specs.Journal.{Opening, Entry, Committed, source, copy}
 use Rattle.plain_model.specs.State.{Plain, Session, Snap, fresh_session, session, stmt_of, is_session, is_being_made, see}
 use Rattle.plain_model.specs.Meaning.{change_and_reply}
 use Rattle.plain_model.specs.Holding.{holder_from, held, is_in_the_way}
+use Rattle.plain_model.specs.Keeping.{kept_locks, with_gain}
 use Rattle.plain_model.specs.Next.{Wants, next_of}
 use Rattle.plain_model.specs.Free.{IsFree}
 use Rattle.plain_model.specs.Legal.{LegalFrom, MayCome, end_from, after, effect, answered, counted, with_changes, with_session, without_restoring}
@@ -66,10 +69,10 @@ module _ (st : Plain) (k : ℕ) (there : IsTrue (is_session st k)) where
   session_there s j ss m = simp length-set there
 
   pub after_lock : (s : Session) (j : List Entry) (ss : List Snap) (m : ℕ) (name : LockName) (mode : Mode) →
-      after (mid st k s j ss m) (Locked (number k) name mode) ≡ mid st k (record s { locks = (name, mode) ∷ s.locks; first = Some (unwrap_or s.first m) }) j ss (m + 1)
+      after (mid st k s j ss m) (Locked (number k) name mode) ≡ mid st k (record s { locks = (name, mode) ∷ s.locks; gained = with_gain name mode s.gained; first = Some (unwrap_or s.first m) }) j ss (m + 1)
   after_lock s j ss m name mode =
-      ap (λ (t : Session). counted (with_session (mid st k s j ss m) k (record t { locks = (name, mode) ∷ t.locks; first = Some (unwrap_or t.first m) }))) (session_mid s j ss m)
-      ∙ ap counted (with_mid s (record s { locks = (name, mode) ∷ s.locks; first = Some (unwrap_or s.first m) }) j ss m)
+      ap (λ (t : Session). counted (with_session (mid st k s j ss m) k (record t { locks = (name, mode) ∷ t.locks; gained = with_gain name mode t.gained; first = Some (unwrap_or t.first m) }))) (session_mid s j ss m)
+      ∙ ap counted (with_mid s (record s { locks = (name, mode) ∷ s.locks; gained = with_gain name mode s.gained; first = Some (unwrap_or s.first m) }) j ss m)
 
   -- a reply, once its effect on the machine is known
   pub after_said : (said : ℕ) (current new : List ℕ) (gone : Bool) (since : ℕ) (locks : Locks) (first : Option ℕ) (making : Option (List ℕ)) (j j' : List Entry) (ss ss' : List Snap) (m : ℕ) (base : Plain) (stmt : Stmt) (n b : ℕ) (reply : Reply) →
@@ -80,7 +83,7 @@ module _ (st : Plain) (k : ℕ) (there : IsTrue (is_session st k)) where
   after_said said current new gone since locks first making j j' ss ss' m base stmt n b reply same settled says does =
       ap (λ (o : Option Stmt). counted (answered (effect (mid st k (busy said current gone since locks first making) j ss m) k o reply) k n)) says
       ∙ ap (λ (x : Plain). counted (answered x k n)) does
-      ∙ ap (λ (t : Session). counted (record (with_session (mid base k s' j' ss' m) k (record t { said = n; making = None; locks = cond (t.depth == 0) [] t.locks; since = m + 1; first = None })) { restoring = without_restoring k base.restoring }))
+      ∙ ap (λ (t : Session). counted (record (with_session (mid base k s' j' ss' m) k (record t { said = n; making = None; locks = kept_locks t; gained = []; since = m + 1; first = None })) { restoring = without_restoring k base.restoring }))
       (ap (λ (l : List Session). get_or (set l (k - 1) s') (k - 1) fresh_session) same ∙ get_or-set_same st.sessions (k - 1) s' fresh_session within)
       ∙ ap (λ (o : Option (ℕ × List ℕ)). counted (record (with_session (mid base k s' j' ss' m) k (idle n new gone (m + 1))) { restoring = without_restoring k o })) settled
       ∙ ap (λ (l : List Session). record (mid base k s' j' ss' (m + 1)) { sessions = l; restoring = None }) (set-set base.sessions (k - 1) s' (idle n new gone (m + 1)))
@@ -97,10 +100,9 @@ module _ (st : Plain) (k : ℕ) (there : IsTrue (is_session st k)) where
     pub copies : (snap : List ℕ) → copy st.opening journal snap ≡ copy st.opening j snap
 
   commits : (said : ℕ) (current : List ℕ) (gone : Bool) (since : ℕ) (locks : Locks) (first : Option ℕ) (j : List Entry) (ss : List Snap) (m : ℕ) (changes : List Change) → Commits said current gone since locks first j ss m changes
-  commits said current gone since locks first j ss m [] = record { journal = j; leads = refl; tables = refl; copies = λ snap. refl }
-  commits said current gone since locks first j ss m (c ∷ cs) = record {
-    journal = Committed k (c ∷ cs) ∷ j;
-    leads = ap (λ (t : Session). cond (t.depth == 0) (record (mid st k s j ss m) { journal = Committed k (c ∷ cs) ∷ j }) (with_session (mid st k s j ss m) k (record t { work = t.work ++ c ∷ cs }))) (session_mid s j ss m);
+  commits said current gone since locks first j ss m changes = record {
+    journal = Committed k changes ∷ j;
+    leads = ap (λ (t : Session). cond (t.depth == 0) (record (mid st k s j ss m) { journal = Committed k changes ∷ j }) (with_session (mid st k s j ss m) k (record t { work = t.work ++ changes }))) (session_mid s j ss m);
     tables = refl;
     copies = λ snap. refl;
   }
@@ -124,6 +126,9 @@ module _ (st : Plain) (k : ℕ) (there : IsTrue (is_session st k)) where
 
     stays : (stmt : Stmt) (reply : Reply) → effect here k (Some stmt) reply ≡ here → current_after stmt reply current ≡ current → tables_after stmt reply (source st.opening j) ≡ source st.opening j → Effects said current gone since locks first j ss m stmt reply
     stays stmt reply e c t = record { journal = j; leads = e ∙ ap (λ (d : List ℕ). mid st k (busy said d gone since locks first None) j ss m) (sym c); tables = sym t; copies = λ snap. refl }
+
+    unbuilt : (stmt : Stmt) (reply : Reply) → reply ≡ Msg (plain NOT_BUILT) → effect here k (Some stmt) (Msg (plain NOT_BUILT)) ≡ here → Effects said current gone since locks first j ss m stmt reply
+    unbuilt stmt reply is e = subst (λ (r : Reply). Effects said current gone since locks first j ss m stmt r) (sym is) (stays stmt (Msg (plain NOT_BUILT)) e refl refl)
 
     by_changes : (stmt : Stmt) (reply : Reply) → effect here k (Some stmt) reply ≡ with_changes here k (change_and_reply stmt (see here k)).0 → current_after stmt reply current ≡ current →
         tables_after stmt reply (source st.opening j) ≡ apply (change_and_reply stmt (source st.opening j)).0 (source st.opening j) → Effects said current gone since locks first j ss m stmt reply
@@ -170,6 +175,14 @@ module _ (st : Plain) (k : ℕ) (there : IsTrue (is_session st k)) where
     effects (Delete d) Ok h = by_changes (Delete d) Ok refl refl refl
     effects (Delete d) (Count n) h = by_changes (Delete d) (Count n) refl refl refl
     effects (Delete d) (Rows rs) h = by_changes (Delete d) (Rows rs) refl refl refl
+    effects (DropTable name) reply h = unbuilt (DropTable name) reply h refl
+    effects BeginTran reply h = unbuilt BeginTran reply h refl
+    effects Commit reply h = unbuilt Commit reply h refl
+    effects Rollback reply h = unbuilt Rollback reply h refl
+    effects LockTimeoutZero reply h = unbuilt LockTimeoutZero reply h refl
+    effects (SetLevel level) reply h = unbuilt (SetLevel level) reply h refl
+    effects (DropDb d) reply h = unbuilt (DropDb d) reply h refl
+    effects (Restore d snap) reply h = unbuilt (Restore d snap) reply h refl
     effects stmt (Msg x) h = stays stmt (Msg x) refl refl refl
     effects stmt Ok h = stays stmt Ok refl refl refl
     effects stmt (Count n) h = stays stmt (Count n) refl refl refl

@@ -1,5 +1,6 @@
 -- Why a statement is answered that there is no room, or that the volume failed.
-use Rattle.std.specs.Prelude.{ℕ, ◌≡◌, ◌≢◌, ◌<◌, Bool, false, ◌==◌, List, [], map}
+use Rattle.std.specs.Prelude.{ℕ, ◌≡◌, ◌≢◌, ◌<◌, Bool, false, ◌==◌, List, [], ◌∷◌, map}
+use Rattle.std.specs.List.{list_any}
 use Rattle.page_base.specs.declared.value.Value.{Value}
 use Rattle.page_dev.specs.Faults.{Rose}
 use Rattle.page_fmt.specs.Content.{content}
@@ -9,7 +10,7 @@ use Rattle.plain_model.specs.declared.reply.Reply.{Reply}
 use Rattle.plain_model.specs.declared.reply.Reply.TheVariants.{Msg}
 use Rattle.plain_model.specs.declared.event.Event.{Event}
 use Rattle.plain_model.specs.declared.event.Event.TheVariants.{Said}
-use Rattle.plain_model.specs.declared.reply.TheConstants.Message.{FILE_FAILED, NO_ROOM}
+use Rattle.plain_model.specs.declared.reply.TheConstants.Message.{DATA_FAILED, FILE_FAILED, FILE_NOT_REMOVED, LOG_FAILED, NO_FRAME, NO_ROOM}
 use Rattle.plain_model.specs.Statements.{data_over, table_named}
 use Rattle.plain_model.specs.Tables.{Table, Put}
 use Rattle.early_pages.specs.Shown.{Shown, img}
@@ -56,9 +57,13 @@ abbrev pub StaysShort : Shown → Shown → Reply → Type 0
 StaysShort old new (Msg m) = m.number ≡ NO_ROOM → new ≡ old
 StaysShort old new reply = Unit {0}
 
--- FILE_FAILED comes only where the volume's count of faults rose
+-- a message of devices that aren't there yet: a frame of the pool, the log, data files in files, the removal of a snapshot
+abbrev pub is_early : ℕ → Bool
+is_early number = list_any (λ n. n == number) (NO_FRAME ∷ LOG_FAILED ∷ DATA_FAILED ∷ FILE_NOT_REMOVED ∷ [])
+
+-- FILE_FAILED comes only where the volume's count of faults rose, and messages of devices that aren't there yet never
 abbrev pub IsVolumeReply : ℕ → ℕ → Reply → Type 0
-IsVolumeReply before now (Msg m) = m.number ≡ FILE_FAILED → Rose before now
+IsVolumeReply before now (Msg m) = (is_early m.number ≡ false) × (m.number ≡ FILE_FAILED → Rose before now)
 IsVolumeReply before now reply = Unit {0}
 
 -- the event is a reply that the volume, or a file, failed
@@ -71,7 +76,7 @@ abbrev pub IsNoShortage : Reply → Type 0
 IsNoShortage (Msg m) = m.number ≢ NO_ROOM
 IsNoShortage reply = Unit {0}
 
--- the reply doesn't say that the volume failed
+-- the reply doesn't say that the volume, or a device that isn't there yet, failed
 abbrev pub IsNoFailure : Reply → Type 0
-IsNoFailure (Msg m) = m.number ≢ FILE_FAILED
+IsNoFailure (Msg m) = (is_early m.number ≡ false) × (m.number ≢ FILE_FAILED)
 IsNoFailure reply = Unit {0}

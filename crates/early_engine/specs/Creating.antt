@@ -20,7 +20,7 @@ use Rattle.early_engine.specs.Ready.{Allowed}
 use Rattle.early_engine.specs.Safe.{Run, Disk, Safe, state, seat_at, script_at}
 use Rattle.early_engine.specs.Stepping.{number}
 use Rattle.early_engine.specs.Entering.{Kept}
-use Rattle.early_engine.specs.Causes.{IsNoShortage, IsVolumeReply}
+use Rattle.early_engine.specs.Causes.{IsNoShortage, IsVolumeReply, is_early}
 
 -- the statement is the next one of session i + 1, over this volume and these pages, whose source has one data file
 pub record IsAsked (source file : List ℕ) (disk : Disk) (v : Shown) (stmt : Stmt) (e : Run) (i : ℕ) : Type 0 where
@@ -60,6 +60,8 @@ pub record Refuses (names : List (List ℕ)) (old new : Disk) (reply : Reply) : 
   pub cause : (code == FILE_FAILED) ≡ true → Rose old.failures new.failures
   -- it never says that there is no room on pages
   pub roomy : (code == NO_ROOM) ≡ false
+  -- nor of devices that aren't there yet
+  pub early : is_early code ≡ false
   pub failures : old.failures ≤ new.failures
   pub file_failures : old.file_failures ≤ new.file_failures
 

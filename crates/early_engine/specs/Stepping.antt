@@ -4,18 +4,21 @@ use Rattle.std.specs.List.{list_any}
 use Rattle.std.specs.Str.{bytes_eq}
 use Rattle.page_base.specs.declared.numbers.SessNo.{SessNo}
 use Rattle.plain_model.specs.declared.stmt.Stmt.{Stmt}
-use Rattle.plain_model.specs.declared.stmt.Stmt.TheVariants.{UseDb, CreateTable, Insert, Update, Delete, CreateSnap}
+use Rattle.plain_model.specs.declared.stmt.Stmt.TheVariants.{UseDb, CreateTable, DropTable, Insert, Update, Delete, BeginTran, Commit, Rollback, LockTimeoutZero, SetLevel, CreateSnap, DropDb, Restore}
 use Rattle.plain_model.specs.declared.event.Event.{Event}
 use Rattle.plain_model.specs.declared.event.Event.TheVariants.{Locked, Said}
 use Rattle.plain_model.specs.declared.reply.Reply.{Reply}
 use Rattle.plain_model.specs.declared.reply.Reply.TheVariants.{Msg}
+use Rattle.plain_model.specs.declared.event.LockName.{LockName}
 use Rattle.plain_model.specs.declared.event.LockName.TheVariants.{All, Table}
-use Rattle.plain_model.specs.declared.reply.TheConstants.Message.{FILE_FAILED}
+use Rattle.plain_model.specs.declared.reply.TheConstants.Message.{FILE_FAILED, NOT_BUILT}
 use Rattle.page_base.specs.declared.numbers.Mode.TheVariants.{S}
 use Rattle.plain_model.specs.Tables.{Tables, apply}
 use Rattle.plain_model.specs.Journal.{Opening, Entry}
 use Rattle.plain_model.specs.State.{Plain, Session, Snap, fresh_session, is_session}
+use Rattle.plain_model.specs.Messages.{plain}
 use Rattle.plain_model.specs.Meaning.{change_and_reply}
+use Rattle.plain_model.specs.Keeping.{with_gain}
 use Rattle.plain_model.specs.Legal.{LegalFrom, end_from}
 use Rattle.early_engine.specs.Ready.{Locks, reply_of}
 use Rattle.early_engine.specs.declared.answer.Answer.{Answer}
@@ -28,9 +31,14 @@ number k = record { 0 = k }
 abbrev pub idle : ℕ → List ℕ → Bool → ℕ → Session
 idle said current gone since = record fresh_session { said = said; current = current; gone = gone; since = since }
 
+-- the names of these locks that are held in S
+abbrev pub gained_in : Locks → List LockName
+gained_in [] = []
+gained_in (l ∷ ls) = with_gain l.0 l.1 (gained_in ls)
+
 -- session k in the midst of a statement
 abbrev pub busy : ℕ → List ℕ → Bool → ℕ → Locks → Option ℕ → Option (List ℕ) → Session
-busy said current gone since locks first making = record (idle said current gone since) { locks = locks; first = first; making = making }
+busy said current gone since locks first making = record (idle said current gone since) { locks = locks; gained = gained_in locks; first = first; making = making }
 
 -- the machine with another session k, another journal and other snapshots, at another moment
 abbrev pub mid : Plain → ℕ → Session → List Entry → List Snap → ℕ → Plain
@@ -66,11 +74,19 @@ abbrev pub is_refusal : Reply → Bool
 is_refusal (Msg message) = true
 is_refusal reply = false
 
--- the reply has no effect beside those of table statements and USE: it isn't one of CREATE DATABASE, or is a refusal of it
--- that leaves no name in doubt
+-- The reply has no effect beside those of table statements and USE: it isn't one of CREATE DATABASE, or is a refusal of it
+-- that leaves no name in doubt; what isn't built yet is refused for that.
 abbrev pub IsPlain : Stmt → Reply → Type 0
 IsPlain (CreateSnap snap files of) (Msg m) = (m.number == FILE_FAILED) ≡ false
 IsPlain (CreateSnap snap files of) reply = ⊥
+IsPlain (DropTable name) reply = reply ≡ Msg (plain NOT_BUILT)
+IsPlain BeginTran reply = reply ≡ Msg (plain NOT_BUILT)
+IsPlain Commit reply = reply ≡ Msg (plain NOT_BUILT)
+IsPlain Rollback reply = reply ≡ Msg (plain NOT_BUILT)
+IsPlain LockTimeoutZero reply = reply ≡ Msg (plain NOT_BUILT)
+IsPlain (SetLevel level) reply = reply ≡ Msg (plain NOT_BUILT)
+IsPlain (DropDb d) reply = reply ≡ Msg (plain NOT_BUILT)
+IsPlain (Restore d snap) reply = reply ≡ Msg (plain NOT_BUILT)
 IsPlain stmt reply = Unit {0}
 
 -- The machine around session k: it is a session, the run began so, nothing is being reverted, and no other session

@@ -1,6 +1,7 @@
 //! Edits of one slot, in place: the rows behind it move, and their offsets with them.
 
 ghost use Rattle.std.specs.Prelude.{◌≡◌, ◌+◌, ◌-◌, ◌*◌, ◌<◌, ◌≤◌, ◌++◌, ◌∷◌, ◌↔◌, IsTrue, [], List, ℕ, length, map, take, slice_set, slice_index_or};
+ghost use Rattle.page_base.specs.declared.limits.TheConstants.{MAX_SLOTS};
 ghost use Rattle.page_fmt.specs.Spelling.{spell, used, row_bytes, table};
 ghost use Rattle.page_fmt.specs.Content.{content};
 ghost use Rattle.page_fmt.specs.Edits.{set_slot, trimmed, cleared};
@@ -103,7 +104,7 @@ fn replace(page: &mut [u8], i: u16, bytes: &[u8])
 fn slot_count(page: &[u8]) -> u16
     requires { IsSpelled page.now }
     ensures count { result ≡ length (content page.now) }
-    ensures few { result ≤ 4048 }
+    ensures few { result ≤ MAX_SLOTS }
     ensures size { length page.now ≡ 8192 }
 {
     number(page, 0)

@@ -1,6 +1,7 @@
 //! Edits of the slots of a page.
 
 ghost use Rattle.std.specs.Prelude.{◌≡◌, ◌+◌, ◌-◌, ◌<◌, ◌≤◌, length, OnOk, OnErr, IfErr};
+ghost use Rattle.page_base.specs.declared.limits.TheConstants.{MAX_SLOT_BYTES, MAX_SLOTS};
 ghost use Rattle.page_fmt.specs.Spelling.{used};
 ghost use Rattle.page_fmt.specs.Content.{content, IsPage};
 ghost use Rattle.page_fmt.specs.Edits.{set_slot, cleared, edited, LacksRoom};
@@ -28,8 +29,8 @@ fn free_bytes(image: &Image) -> u32
 // How many bytes more the page takes with a slot set.
 fn growth(image: &Image, i: u16, bytes: &[u8]) -> u32
     requires page { IsPage image.now }
-    requires few { length bytes.now ≤ 8094 }
-    requires index { i < 4048 }
+    requires few { length bytes.now ≤ MAX_SLOT_BYTES }
+    requires index { i < MAX_SLOTS }
     ensures { result ≡ used (set_slot (content image.now) i bytes.now) - used (content image.now) }
 {
     let offsets = 2 * (i + 1).saturating_sub(slots(image)) as u32;
@@ -41,8 +42,8 @@ fn growth(image: &Image, i: u16, bytes: &[u8]) -> u32
 pub fn put_slot(image: &mut Image, i: u16, bytes: &[u8]) -> Result<(), NoRoom>
     requires page { IsPage image.old }
     requires some { 0 < length bytes.now }
-    requires few { length bytes.now ≤ 8094 }
-    requires index { i < 4048 }
+    requires few { length bytes.now ≤ MAX_SLOT_BYTES }
+    requires index { i < MAX_SLOTS }
     ensures page { IsPage image.new }
     ensures ok { OnOk result (content image.new ≡ set_slot (content image.old) i bytes.now) }
     ensures err { OnErr result (image.new ≡ image.old) }
@@ -73,8 +74,8 @@ pub fn clear_slot(image: &mut Image, i: u16)
 /// free, and then it is unchanged. Takes no memory.
 pub fn edit(image: &mut Image, i: u16, bytes: &[u8]) -> Result<(), NoRoom>
     requires page { IsPage image.old }
-    requires few { length bytes.now ≤ 8094 }
-    requires index { i < 4048 }
+    requires few { length bytes.now ≤ MAX_SLOT_BYTES }
+    requires index { i < MAX_SLOTS }
     ensures page { IsPage image.new }
     ensures ok { OnOk result (content image.new ≡ edited (content image.old) i bytes.now) }
     ensures err { OnErr result (image.new ≡ image.old) }

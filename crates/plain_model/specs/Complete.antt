@@ -1,5 +1,5 @@
 -- Which history tells each session's statements out.
-use Rattle.std.specs.Prelude.{ℕ, ◌+◌, ◌≡◌, ◌<◌, ◌==◌, if◌then◌else◌, List, [], ◌∷◌, ◌++◌, length, map, slice_index_or, Option, Some, None}
+use Rattle.std.specs.Prelude.{ℕ, ◌+◌, ◌≡◌, ◌<◌, ◌≤◌, ◌==◌, All, if◌then◌else◌, List, [], ◌∷◌, ◌++◌, length, map, slice_index_or, Option, Some, None}
 use Rattle.std.specs.List.{filter_map, range_with_len}
 use Rattle.plain_model.specs.declared.stmt.Stmt.{Stmt}
 use Rattle.plain_model.specs.declared.event.Event.{Event}
@@ -22,3 +22,17 @@ IsToldOut k script book = filter_map (mark_of k) book ≡ map Answered (range_wi
 -- so it is of every session
 abbrev pub Complete : List (List Stmt) → List Event → Type 0
 Complete scripts book = (i : ℕ) → i < length scripts → IsToldOut (i + 1) (slice_index_or scripts i []) book
+
+-- the session whose step an event ends: a statement of it was answered, or it left
+abbrev pub closer : Event → Option ℕ
+closer (Said who number began reply) = Some who.0
+closer (Left who) = Some who.0
+closer _ = None
+
+-- the sessions in the order of the steps that they ended
+abbrev pub closers : List Event → List ℕ
+closers book = filter_map closer book
+
+-- every session that was answered, or left, has a script
+abbrev pub AreKnown : List (List Stmt) → List Event → Type 0
+AreKnown scripts book = All (λ k. (1 ≤ k) × (k ≤ length scripts)) (closers book)

@@ -33,6 +33,8 @@ pub mod Next
 pub mod Free
 pub mod Effects
 pub mod Legal
+pub mod Alone
+pub mod Unlocked
 pub mod Complete
 pub mod Printed
 pub mod Order

@@ -1,20 +1,9 @@
 -- Whose statement is answered when: the order that a schedule gives.
-use Rattle.std.specs.Prelude.{ℕ, ◌≡◌, ◌+◌, ◌-◌, nat_le, ◌&&◌, if◌then◌else◌, List, [], ◌∷◌, ◌++◌, length, map, replicate, slice_index_or, slice_set, Option, Some, None}
-use Rattle.std.specs.List.{filter_map}
+use Rattle.std.specs.Prelude.{ℕ, ◌≡◌, ◌+◌, ◌-◌, nat_le, ◌&&◌, if◌then◌else◌, List, [], ◌∷◌, ◌++◌, length, map, replicate, slice_index_or, slice_set}
 use Rattle.plain_model.specs.declared.stmt.Stmt.{Stmt}
 use Rattle.plain_model.specs.declared.pick.Pick.{Pick}
 use Rattle.plain_model.specs.declared.event.Event.{Event}
-use Rattle.plain_model.specs.declared.event.Event.TheVariants.{Said, Left}
-
--- the session whose step an event ends: a statement of it was answered, or it left
-abbrev pub closer : Event → Option ℕ
-closer (Said who number began reply) = Some who.0
-closer (Left who) = Some who.0
-closer _ = None
-
--- the sessions in the order of the steps that they ended
-abbrev pub closers : List Event → List ℕ
-closers book = filter_map closer book
+pub use Rattle.plain_model.specs.Complete.{closer, closers}
 
 -- how many steps each session has: its statements and its leaving
 abbrev pub steps : List (List Stmt) → List ℕ

@@ -8,15 +8,9 @@ ghost use Rattle.rec_log.specs.Entries.{entry_of};
 
 use crate::{LogEntry, Rec, Work};
 use byteorder::{ByteOrder, LittleEndian};
-use page_base::{Bytes, Name, NoMemory, PageId};
+use page_base::{Bytes, MAX_SLOT_BYTES, MAX_SLOTS, Name, NoMemory, PageId};
 use std::alloc::{AllocError, Global};
 use std::marker::Model;
-
-/// So many offsets of two bytes fill a page behind its header.
-const SLOTS: u16 = 4_048;
-
-/// The bytes that are left to a single slot behind the header and its offset.
-const LONGEST: usize = 8_094;
 
 // Why a field isn't read.
 #[derive(Clone, Copy, Debug, PartialEq, Eq)]
@@ -139,7 +133,7 @@ impl<'a> Reader<'a> {
             return Err(Stop::Form);
         }
         let slot = LittleEndian::read_u16(self.rest);
-        if slot >= SLOTS {
+        if slot >= MAX_SLOTS {
             return Err(Stop::Form);
         }
         self.rest = &self.rest[2..];
@@ -155,7 +149,7 @@ impl<'a> Reader<'a> {
             return Err(Stop::Form);
         }
         let len = LittleEndian::read_u16(self.rest) as usize;
-        if len > LONGEST || self.rest.len() < 2 + len {
+        if len > MAX_SLOT_BYTES || self.rest.len() < 2 + len {
             return Err(Stop::Form);
         }
         let (text, rest) = self.rest[2..].split_at(len);

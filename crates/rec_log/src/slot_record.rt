@@ -1,6 +1,7 @@
 //! One slot's change, with what stood there before it.
 
 ghost use Rattle.std.specs.Prelude.{◌≡◌, IfOk};
+ghost use Rattle.rec_log.specs.Records.{IsRecord};
 
 use page_base::{Bytes, NoMemory, PageId};
 use std::alloc::Global;
@@ -27,6 +28,13 @@ impl Model for Rec {
 }
 
 impl Rec {
+    /// For proofs alone: what the type keeps of each record. Does nothing when it runs.
+    pub fn keeps_limits(&self)
+        ensures { IsRecord self.now }
+    {
+        let _page = self.page;
+    }
+
     // The same record once more.
     pub(crate) fn copy(&self, alloc: Global) -> Result<Rec, NoMemory>
         ensures { IfOk result (λ copy. copy ≡ self.now) }

@@ -85,7 +85,9 @@ impl Work {
         ensures value { (d : Record) → slice_index_or self.now.recs place d ≡ result.now }
         ensures record { IsRecord result.now }
     {
-        &self.recs[place]
+        let rec = &self.recs[place];
+        rec.keeps_limits();
+        rec
     }
 
     /// The last record; None exactly where there is none.
@@ -94,7 +96,9 @@ impl Work {
         ensures none { IfNone result (self.now.recs ≡ []) }
         ensures record { IfSome result (λ rec. IsRecord rec.now) }
     {
-        self.recs.last()
+        let rec = self.recs.last()?;
+        rec.keeps_limits();
+        Some(rec)
     }
 
     /// All records, in order.

@@ -1,6 +1,7 @@
 -- Rows that a statement puts, and their keys, are within the limits of a page.
 use Rattle.std.specs.Prelude.{◌≡◌, ◌≤◌, true, List, length, Some, None, All}
 use Rattle.page_base.specs.declared.column.Column.{Column}
+use Rattle.page_base.specs.declared.limits.TheConstants.{MAX_ROW_BYTES, MAX_KEY_BYTES}
 use Rattle.page_base.specs.declared.value.Value.{Value}
 use Rattle.plain_model.specs.declared.stmt.Stmt.{Stmt}
 use Rattle.plain_model.specs.Sound.{is_sound}
@@ -13,8 +14,8 @@ use Rattle.row_types.specs.Puts.{Puts}
 
 -- a row of at most 8,060 bytes, and of at most 900 bytes of key
 pub record KeepsLimits (cols : List Column) (row : List Value) : Type 0 where
-  pub bytes : length (row_bytes row) ≤ 8060
-  pub key : length (key_bytes cols row) ≤ 900
+  pub bytes : length (row_bytes row) ≤ MAX_ROW_BYTES
+  pub key : length (key_bytes cols row) ≤ MAX_KEY_BYTES
 
 -- each row that is put is within the limits
 abbrev pub PutsSmall : List Column → List Change → Type 0

@@ -1,5 +1,5 @@
 -- What the call tells of a run that was closed.
-use Rattle.std.proofs.Common.{◌≡◌, ◌⊎◌, inl, inr, ℕ, List, ◌++◌, ◌∙◌, append_assoc, arith, refl}
+use Rattle.std.proofs.Common.{◌≡◌, ◌⊎◌, inl, inr, ℕ, List, ◌++◌, ◌∙◌, append_assoc, arith}
 use Rattle.std.specs.Prelude.{Option}
 use Rattle.std.specs.Io.KnownBytes.{Appends}
 use Rattle.page_dev.specs.Faults.{Rose}
@@ -8,7 +8,7 @@ use Rattle.plain_model.specs.Printed.{printed}
 use Rattle.early_engine.specs.declared.closing.CloseEnd.{CloseEnd}
 use Rattle.early_engine.specs.declared.closing.CloseEnd.TheVariants.{Done, Fault}
 use Rattle.early_engine.specs.Closing.{IsFault}
-use Rattle.snapdb.specs.Headline.{IsTold, close_line}
+use Rattle.snapdb.specs.Headline.{close_line}
 use Rattle.snapdb.specs.Closed.{told_text, status_of}
 
 -- three pieces, written one behind the other
@@ -34,7 +34,3 @@ module _ (book : List Event) (status : ℕ) (taken taken' : Option (List ℕ)) (
   tells_close is Done so fault known all seven = absurd (one_of status 0 3 4 known (λ e. omega (arith, e, seven)) (λ e. omega (arith, e, seven)) (λ e. omega (arith, e, seven)))
   tells_close is (Fault name) so fault known all seven = (name, fault tt, so, all seven)
 
-  -- the text of a closed run is one that may be told
-  pub may_be_told : (end : CloseEnd) → (IsFault end → Rose f f') → IsTold f f' book (told_text book end)
-  may_be_told Done fault = inl refl
-  may_be_told (Fault name) fault = inr (name, fault tt, refl)

@@ -7,8 +7,10 @@ use Rattle.page_dev.specs.Sink.{AppendsFront}
 use Rattle.plain_model.specs.declared.event.Event.{Event}
 use Rattle.snapdb.specs.declared.top.PlayRefusal.{PlayRefusal}
 use Rattle.snapdb.specs.declared.top.PlayRefusal.TheVariants.{Source, Memory, Long, Script}
-use Rattle.snapdb.specs.Headline.{IsPlay, Refuses, TooLong, IsDue, long_line, script_line}
+use Rattle.snapdb.specs.Headline.{IsPlay, Refuses, TooLong, long_line, script_line}
 use Rattle.snapdb.specs.Headline as headline
+use Rattle.early_engine.specs.Safe.{Disk}
+use Rattle.snapdb.specs.Closed.{IsDue}
 use Rattle.snapdb.specs.Refusing.{Answers, HasReason}
 
 module _ (words : List (List ℕ)) (old new : Option (List ℕ)) (s s' : ℕ) (book : List Event) (status : ℕ) (taken taken' : Option (List ℕ)) (f f' : ℕ)
@@ -21,7 +23,7 @@ module _ (words : List (List ℕ)) (old new : Option (List ℕ)) (s s' : ℕ) (b
   writes_line (Script line reason) why h two = (script_line line reason, headline.Script line reason play why, h.all two)
 
   -- nothing was written, or a front of the line
-  pub writes_front : (told : Bool) (names : List (List ℕ)) (v v' : ℕ) (r : PlayRefusal) → HasReason r old new s s' → Answers r status taken taken' f f' → Keeps taken taken' ⊎ ((text : List ℕ) × IsDue told names v v' words old new book text × AppendsFront taken taken' text)
+  pub writes_front : (told : Bool) (names : List (List ℕ)) (v v' : Disk) (r : PlayRefusal) → HasReason r old new s s' → Answers r status taken taken' f f' → Keeps taken taken' ⊎ ((text : List ℕ) × IsDue told names v v' words old new book text × AppendsFront taken taken' text)
   writes_front told names v v' Source why h = inl h.kept
   writes_front told names v v' Memory why h = inl h.kept
   writes_front told names v v' Long why h = inr (long_line, inl (TooLong play why, empty), h.front)

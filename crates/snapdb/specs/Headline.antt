@@ -8,7 +8,7 @@ use Rattle.plain_model.specs.declared.pick.Pick.{Pick}
 use Rattle.plain_model.specs.declared.event.Event.{Event}
 use Rattle.plain_model.specs.Journal.{Opening}
 use Rattle.plain_model.specs.Legal.{Legal}
-use Rattle.plain_model.specs.Complete.{Complete}
+use Rattle.plain_model.specs.Complete.{Complete, AreKnown}
 use Rattle.plain_model.specs.Order.{IsInOrder}
 use Rattle.plain_model.specs.Printed.{printed}
 use Rattle.early_engine.specs.Opened.{new_source}
@@ -16,6 +16,7 @@ use Rattle.script_read.specs.declared.refusal.Why.{Why}
 use Rattle.script_read.specs.Words.{text_of}
 use Rattle.script_read.specs.Script.{IsScript}
 use Rattle.script_read.specs.Refusal.{IsRefusedAt}
+use Rattle.snapdb.specs.declared.stream.TheConstants.{LIMIT}
 
 -- the words of the one command
 abbrev pub IsPlay : List (List ℕ) → Type 0
@@ -29,27 +30,29 @@ Reads old new bytes = Consumes old new bytes × IsAtEnd new
 abbrev pub fresh : List (List ℕ) → Opening
 fresh names = new_source (codes "shop") (codes "shop_data") names
 
--- The book is one complete history of the script, in the order of its schedule, and a legal one where the volume tells
--- its content. The names are those on the volume at the beginning.
+-- The book is one complete history of the script, in the order of its schedule, in which no stranger is told of, and a
+-- legal one where the volume tells its content. The names are those on the volume at the beginning.
 pub record IsHistory (told : Bool) (names : List (List ℕ)) (bytes : List ℕ) (book : List Event) : Type 0 where
   pub scripts : List (List Stmt)
   pub picks : List Pick
   pub script : IsScript bytes scripts picks
   pub legal : IsTrue told → Legal (fresh names) scripts book
   pub complete : Complete scripts book
+  pub known : AreKnown scripts book
   pub order : IsInOrder scripts picks book
 
--- a whole script was read, and the book is its history
+-- a whole script of no more bytes than one may have was read, and the book is its history
 abbrev pub Tells : Bool → List (List ℕ) → Option (List ℕ) → Option (List ℕ) → List Event → Type 0
-Tells told names old new book = (bytes : List ℕ) × Reads old new bytes × IsHistory told names bytes book
+Tells told names old new book = (bytes : List ℕ) × Reads old new bytes × (length bytes ≤ LIMIT) × IsHistory told names bytes book
 
 -- more bytes than a script may have were taken
 abbrev pub Exceeds : Option (List ℕ) → Option (List ℕ) → Type 0
-Exceeds old new = (bytes : List ℕ) × Consumes old new bytes × (16777216 < length bytes)
+Exceeds old new = (bytes : List ℕ) × Consumes old new bytes × (LIMIT < length bytes)
 
--- all bytes were read, are at most 16,777,216, and this line is the first that is refused, so that they are no script
+-- all bytes were read, are no more than a script may have, and this line is the first that is refused, so that they are
+-- no script
 abbrev pub IsRefused : Option (List ℕ) → Option (List ℕ) → ℕ → Why → Type 0
-IsRefused old new line why = (bytes : List ℕ) × Reads old new bytes × (length bytes ≤ 16777216) × IsRefusedAt bytes line why
+IsRefused old new line why = (bytes : List ℕ) × Reads old new bytes × (length bytes ≤ LIMIT) × IsRefusedAt bytes line why
 
 abbrev pub usage_line : List ℕ
 usage_line = codes "refused: usage\n"
@@ -72,12 +75,3 @@ pub data Refuses (words : List (List ℕ)) (old new : Option (List ℕ)) : List 
   Script : (line : ℕ) (why : Why) → IsPlay words → IsRefused old new line why → Refuses words old new (script_line line why)
   TooLong : IsPlay words → Exceeds old new → Refuses words old new long_line
 
--- The text of a run: that of its history; or, where the volume's count of faults rose, that and the line of a file
--- that wasn't put back.
-abbrev pub IsTold : ℕ → ℕ → List Event → List ℕ → Type 0
-IsTold faults faults' book text = (text ≡ printed book) ⊎ ((name : List ℕ) × Rose faults faults' × (text ≡ printed book ++ close_line name))
-
--- the text that is due: the line of a refusal, with an empty book, or the text of a run
-abbrev pub IsDue : Bool → List (List ℕ) → ℕ → ℕ → List (List ℕ) → Option (List ℕ) → Option (List ℕ) → List Event → List ℕ → Type 0
-IsDue told names faults faults' words old new book text =
-    (Refuses words old new text × (book ≡ [])) ⊎ (IsPlay words × Tells told names old new book × IsTold faults faults' book text)

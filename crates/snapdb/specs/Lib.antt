@@ -1,4 +1,4 @@
 pub mod Headline
 pub mod Refusing
-pub mod Closed
 pub mod Runs
+pub mod Closed

@@ -1,4 +1,4 @@
-//! Books of small scripts, and what a failing source, sink, volume or sparse file does to a call.
+//! What a failing source, sink, volume or sparse file does to a call. Calls that meet no failure are in the books.
 
 use crate::top::{Ended, still};
 use mem_dev::{MemSink, MemSource, MemVolume, SureSink, SureSource};
@@ -10,9 +10,6 @@ use std::test::Fail;
 const FIRST: &[u8] =
     b":session 1\nUSE shop\nCREATE TABLE t (id INT PRIMARY KEY, v INT)\nINSERT t VALUES (1, 10)\n";
 
-const FIRST_BOOK: &[u8] =
-    b"1 said 1 0 ok\n1 lock * X\n1 said 2 1 ok\n1 lock * S\n1 lock t X\n1 said 3 3 count 1\n1 left\n";
-
 // The status of a call with one word.
 fn status_of<S: Source, K: Sink>(
     alloc: Global,
@@ -23,145 +20,6 @@ fn status_of<S: Source, K: Sink>(
     let mut words = Vec::new(alloc);
     words.push(word.to_vec(alloc)?)?;
     Ok(still(alloc, &words, MemVolume::new(alloc)?, input, out).status)
-}
-
-// What a call writes over devices that never fail, and its status.
-fn played(alloc: Global, word: &[u8], script: &[u8]) -> Result<(u8, Vec<u8>), Fail> {
-    let mut input = SureSource::new(alloc, script)?;
-    let mut out = SureSink::new(alloc)?;
-    let status = status_of(alloc, word, &mut input, &mut out)?;
-    Ok((status, out.bytes().to_vec(alloc)?))
-}
-
-#[test]
-fn a_whole_script_is_told(rt: HostRuntime) -> Result<(), Fail> {
-    let (status, written) = played(rt.alloc(), b"play", FIRST)?;
-    assert_eq!(rt; status, 0);
-    assert_eq!(rt; written.as_slice(), FIRST_BOOK);
-    Ok(())
-}
-
-// A word, a script, and the line that refuses them.
-const REFUSED: [(&[u8], &[u8], &[u8]); 7] = [
-    (b"plya", FIRST, b"refused: usage\n"),
-    (
-        b"play",
-        b":session 2\n:session 2\n",
-        b"refused: script line 1 session\n",
-    ),
-    (
-        b"play",
-        b":session \x801\n",
-        b"refused: script line 1 byte\n",
-    ),
-    (
-        b"play",
-        b"USE shop\n:session 1\n",
-        b"refused: script line 1 before\n",
-    ),
-    (
-        b"play",
-        b"\n:session 1\n:play\n",
-        b"refused: script line 3 directive\n",
-    ),
-    (
-        b"play",
-        b":session 1\nUSE shop\n:schedule\n1 2\n",
-        b"refused: script line 4 pick\n",
-    ),
-    (
-        b"play",
-        b":session 1\nUSE \rshop\n",
-        b"refused: script line 2 byte\n",
-    ),
-];
-
-#[test]
-fn what_is_no_script_is_refused(rt: HostRuntime) -> Result<(), Fail> {
-    for (word, script, line) in REFUSED {
-        let (status, written) = played(rt.alloc(), word, script)?;
-        assert_eq!(rt; status, 2);
-        assert_eq!(rt; written.as_slice(), line);
-    }
-    Ok(())
-}
-
-#[test]
-fn nothing_is_played_of_no_sessions(rt: HostRuntime) -> Result<(), Fail> {
-    let (status, written) = played(rt.alloc(), b"play", b"")?;
-    assert_eq!(rt; status, 0);
-    assert_eq!(rt; written.as_slice(), b"".as_slice());
-    Ok(())
-}
-
-#[test]
-fn a_schedule_says_whose_statement_comes(rt: HostRuntime) -> Result<(), Fail> {
-    let script = b":session 1\nUSE shop\n:session 2\nUSE shop\n:schedule\n2! 0 2@change\n";
-    let book = b"2 said 1 0 ok\n2 left\n1 said 1 2 ok\n1 left\n";
-    let (status, written) = played(rt.alloc(), b"play", script)?;
-    assert_eq!(rt; status, 0);
-    assert_eq!(rt; written.as_slice(), book.as_slice());
-    Ok(())
-}
-
-#[test]
-fn statements_are_counted(rt: HostRuntime) -> Result<(), Fail> {
-    for (count, status) in [(20_000, 0), (20_001, 2)] {
-        let mut script = b":session 1\n".to_vec(rt.alloc())?;
-        for _ in 0..count {
-            script.extend_from_slice(b"USE shop\n")?;
-        }
-        assert_eq!(rt; played(rt.alloc(), b"play", &script)?.0, status);
-    }
-    Ok(())
-}
-
-// A schedule of so many entries of session 1 on line 3.
-fn picks(alloc: Global, count: u32) -> Result<Vec<u8>, Fail> {
-    let mut script = b":session 1\n:schedule\n".to_vec(alloc)?;
-    for _ in 0..count {
-        script.extend_from_slice(b"1 ")?;
-    }
-    Ok(script)
-}
-
-#[test]
-fn a_schedule_has_a_greatest_length(rt: HostRuntime) -> Result<(), Fail> {
-    let cases = [
-        (1_000_000, 0, b"1 left\n".as_slice()),
-        (1_000_001, 2, b"refused: script line 3 many\n"),
-    ];
-    for (count, wanted, line) in cases {
-        let script = picks(rt.alloc(), count)?;
-        let (status, written) = played(rt.alloc(), b"play", &script)?;
-        assert_eq!(rt; status, wanted);
-        assert_eq!(rt; written.as_slice(), line);
-    }
-    Ok(())
-}
-
-// The line of the session, and spaces up to this length.
-fn spaces(alloc: Global, len: usize) -> Result<Vec<u8>, Fail> {
-    let mut script = b":session 1\n".to_vec(alloc)?;
-    for _ in script.len()..len {
-        script.push(b' ')?;
-    }
-    Ok(script)
-}
-
-#[test]
-fn a_script_has_a_greatest_length(rt: HostRuntime) -> Result<(), Fail> {
-    let cases = [
-        (16_777_216, 0, b"1 left\n".as_slice()),
-        (16_777_217, 2, b"refused: script long\n"),
-    ];
-    for (len, wanted, line) in cases {
-        let script = spaces(rt.alloc(), len)?;
-        let (status, written) = played(rt.alloc(), b"play", &script)?;
-        assert_eq!(rt; status, wanted);
-        assert_eq!(rt; written.as_slice(), line);
-    }
-    Ok(())
 }
 
 #[test]

@@ -6,7 +6,7 @@ ghost use Rattle.std.specs.FinSet as finset;
 ghost use Rattle.std.specs.Io.KnownBytes.{Appends, Keeps};
 ghost use Rattle.page_dev.specs.Faults.{Rose};
 ghost use Rattle.page_dev.specs.Sink.{AppendsFront};
-ghost use Rattle.plain_model.specs.Complete.{Complete};
+ghost use Rattle.plain_model.specs.Complete.{Complete, AreKnown};
 ghost use Rattle.plain_model.specs.Legal.{Legal};
 ghost use Rattle.plain_model.specs.Order.{IsInOrder};
 ghost use Rattle.plain_model.specs.declared.pick.Pick.{Pick};
@@ -18,12 +18,13 @@ ghost use Rattle.early_engine.specs.Disks.{disk_of};
 ghost use Rattle.early_engine.specs.Opened.{names_of};
 ghost use Rattle.early_engine.specs.Safe.{is_turn};
 ghost use Rattle.early_engine.specs.Causes.{is_failure};
-ghost use Rattle.snapdb.specs.Closed.{told_text, status_of};
+ghost use Rattle.snapdb.specs.Closed.{told_text, status_of, IsDue};
+ghost use Rattle.snapdb.specs.declared.stream.TheConstants.{LIMIT};
 ghost use Rattle.snapdb.specs.Refusing.{Answers, HasReason, WritesLine};
 ghost use Rattle.snapdb.specs.Runs.{HaveRun, Runs};
 ghost use Rattle.script_read.specs.declared.refusal.Why.{Why};
 ghost use Rattle.script_read.specs.Script.{IsScript};
-ghost use Rattle.snapdb.specs.Headline.{IsPlay, Reads, Tells, Refuses, IsDue, close_line, script_line, fresh};
+ghost use Rattle.snapdb.specs.Headline.{IsPlay, Reads, Tells, Refuses, close_line, script_line, fresh};
 
 use crate::stream::{ReadRefusal, read_all, write_all};
 use crate::text::{book_text, script_line};
@@ -61,7 +62,7 @@ struct Unplayed<V: Volume> {
 
 // Reads a script.
 fn read_input<S: Source>(alloc: Global, input: &mut S) -> Result<Work2, PlayRefusal>
-    ensures script { IfOk result (λ work. (bytes : List ℕ) × Reads (S.left input.old) (S.left input.new) bytes × IsScript bytes work.scripts work.picks) }
+    ensures script { IfOk result (λ work. (bytes : List ℕ) × Reads (S.left input.old) (S.left input.new) bytes × (length bytes ≤ LIMIT) × IsScript bytes work.scripts work.picks) }
     ensures players { IfOk result (λ work. All (λ (pick : Pick). pick.who ≤ length work.scripts) work.picks) }
     ensures why { IfErr result (λ why. HasReason why (S.left input.old) (S.left input.new) (S.failures input.old) (S.failures input.new)) }
     ensures later { S.failures input.old ≤ S.failures input.new }
@@ -103,6 +104,7 @@ fn run_scripts<V: Volume>(
     requires players { All (λ (pick : Pick). pick.who ≤ length work.scripts) work.picks }
     ensures legal { IfOk result (λ c. IsTrue (V.tells volume) → Legal (fresh (names_of (V.folder volume))) work.scripts c.book) }
     ensures complete { IfOk result (λ c. Complete work.scripts c.book) }
+    ensures known { IfOk result (λ c. AreKnown work.scripts c.book) }
     ensures order { IfOk result (λ c. IsInOrder work.scripts work.picks c.book) }
     ensures run { IfOk result (λ c. HaveRun work.scripts work.picks (disk_of V.tells V.folder V.out V.failures V.file_failures volume) (disk_of V.tells V.folder V.out V.failures V.file_failures c.volume) c.book c.end) }
     ensures out { IfOk result (λ c. (n : List ℕ) → finset.contains (V.out c.volume) n ≡ false) }
@@ -294,7 +296,7 @@ pub fn still<V: Volume, S: Source, K: Sink>(
 
     // What was written is a front of the text that was due, or nothing.
     ensures front { Keeps (K.taken out.old) (K.taken out.new) ⊎ ((text : List ℕ)
-        × IsDue (V.tells volume) (names_of (V.folder volume)) (V.failures volume) (V.failures result.volume) (map (λ w. w.items) words.now) (S.left input.old) (S.left input.new) result.book text
+        × IsDue (V.tells volume) (names_of (V.folder volume)) (disk_of V.tells V.folder V.out V.failures V.file_failures volume) (disk_of V.tells V.folder V.out V.failures V.file_failures result.volume) (map (λ w. w.items) words.now) (S.left input.old) (S.left input.new) result.book text
         × AppendsFront (K.taken out.old) (K.taken out.new) text) }
 
     // Words that are no command leave the input unread and the volume as it is.

@@ -1,16 +1,16 @@
 -- The laws of reading forms.
-use Rattle.std.proofs.Common.{◌≡◌, ℕ, true, List, [], ◌∷◌, ◌++◌, length, ap, sym, ◌∙◌, refl, append_assoc, arith}
+use Rattle.std.proofs.Common.{◌≡◌, ℕ, Bool, true, false, List, [], ◌∷◌, ◌++◌, length, ap, sym, ◌∙◌, refl, append_assoc, arith}
 use Rattle.sql_lex.specs.declared.token.Token.{Token}
 use Rattle.sql_expr.specs.Got.{Done, Refused}
 use Rattle.sql_expr.proofs.Viable.{end_token}
-use Rattle.sql_form.specs.Rules.{Rules, strict, loose, Breach, rules_of}
+use Rattle.sql_form.specs.Rules.{Rules, strict, Breach, rules_of}
 use Rattle.sql_form.specs.Form.{Form, One, Table, Expr, Then, Or, May, Many, Parts, Value}
 use Rattle.sql_form.specs.Grammar.{IsPlain, first, IsForm}
 use Rattle.sql_form.specs.Read.{read}
 use Rattle.sql_form.specs.Laws.{has_end, Begins, IsFront, IsRefused}
 use Rattle.sql_form.proofs.Complete.{complete}
 use Rattle.sql_form.proofs.Shorter.{continues_end}
-use Rattle.sql_form.proofs.Samples.{Begun}
+use Rattle.sql_form.proofs.Samples.{Begun, FreeForm, free}
 use Rattle.sql_form.proofs.Told.{Reached, Halted, reached_split}
 use Rattle.sql_form.proofs.ToldLeaves.{told_one, told_table, told_expr}
 use Rattle.sql_form.proofs.ToldForms.{Tells, tells_then, tells_or, tells_may, tells_many}
@@ -33,14 +33,14 @@ tells (Parts most every part) p ts e = tells_parts every part p.0 p.1 (counts_fi
 pub reached : (f : Form) → IsPlain f → (ts rest : List Token) (x : Value f) → has_end ts ≡ true → read strict f ts ≡ Done x rest → Reached (Value f) (IsForm strict f) (λ r. read r f) ts x rest
 reached f p ts rest x e h = rw h at (tells f p ts e)
 
-pub halted : (f : Form) → IsPlain f → (ts : List Token) (at : ℕ) → has_end ts ≡ true → read strict f ts ≡ Refused at → Halted (Value f) (IsForm loose f) (λ r. read r f) ts at
+pub halted : (f : Form) → IsPlain f → (ts : List Token) (at : ℕ) → has_end ts ≡ true → read strict f ts ≡ Refused at → Halted (Value f) (FreeForm f) (λ r. read r f) ts at
 halted f p ts at e h = rw h at (tells f p ts e)
 
 pub front_is : (f : Form) → IsPlain f → (ts rest : List Token) (x : Value f) → has_end ts ≡ true → read strict f ts ≡ Done x rest → IsFront f ts x rest
 front_is f p ts rest x e h = let r = reached f p ts rest x e h in record { front = r.front; split = reached_split r; is = r.is_front }
 
-begins_of : (f : Form) (front : List Token) → Begun (Value f) (IsForm loose f) front → Begins loose f front
-begins_of f front b = record { more = b.more; value = b.value; is = b.is_so }
+begins_of : (texts : Bool) (f : Form) (front : List Token) → Begun (Value f) (FreeForm f texts) front → Begins (free texts) f front
+begins_of texts f front b = record { more = b.more; value = b.value; is = b.is_so }
 
 done_not_refused : {A : Type 0} (x : A) (rest : List Token) (at : ℕ) → Done x rest ≡ Refused at → ⊥
 done_not_refused x rest at h = cc
@@ -61,8 +61,8 @@ refused_is f p ts at e h =
         others = k.others;
         split = k.split;
         place = k.place;
-        before = begins_of f k.front k.before;
+        before = begins_of true f k.front k.before;
         none = none_begins f p (rules_of k.why) k.front k.token at k.again;
-        freed = λ free. begins_of f (k.front ++ k.token ∷ []) (k.freed free);
+        freed = λ is_free. begins_of false f (k.front ++ k.token ∷ []) (k.freed is_free);
       },
     )

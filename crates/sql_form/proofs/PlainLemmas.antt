@@ -10,13 +10,13 @@ use Rattle.sql_lex.specs.declared.token.Mark.{Mark}
 use Rattle.sql_lex.specs.declared.token.Mark.TheVariants as mark
 use Rattle.sql_lex.specs.declared.token.TokenKind.{TokenKind}
 use Rattle.sql_lex.specs.declared.token.TokenKind.TheVariants as kind
-use Rattle.sql_lex.specs.Words.{is_same, is_same_mark, text_of, sign_of}
+use Rattle.sql_lex.specs.Words.{is_same, is_same_mark, text_of, letters_of, sign_of}
 use Rattle.sql_expr.specs.Roles.{word_role, mark_role, kind_role}
 use Rattle.sql_expr.specs.Laws.{goes_on}
 use Rattle.sql_form.specs.Rules.{loose}
-use Rattle.sql_form.specs.Form.{Leaf, Key, Word, Sign, Nought, AnyName, AnyNumber, FileText, NameText, if_so, is_key, is_sign, name_of, said, Form, One, Table, Expr, Then, Or, May, Many, Parts}
+use Rattle.sql_form.specs.Form.{Leaf, Key, Word, Sign, Nought, AnyName, AnyNumber, FileText, NameText, if_so, is_key, is_word, is_sign, name_of, said, Form, One, Table, Expr, Then, Or, May, Many, Parts}
 use Rattle.sql_form.specs.Grammar.{word_starts, mark_starts, starts, or_if, is_solid, first, continues, IsPlain}
-use Rattle.sql_form.specs.Plain.{Class, OfKey, OfSign, OfNames, OfNumbers, OfTexts, meet, is_of, are_apart, class_of, expr_starts, expr_goes_on, with_more, firsts, nexts, is_plain}
+use Rattle.sql_form.specs.Plain.{Class, OfKey, OfWord, OfSign, OfNames, OfNumbers, OfTexts, meet, is_of, are_apart, class_of, expr_starts, expr_goes_on, with_more, firsts, nexts, is_plain}
 
 -- a token of some class of the list
 abbrev IsOne : TokenKind → List Class → Type 0
@@ -44,6 +44,10 @@ meet_of_sign w (OfSign a) _ h m = cc
 meet_of_sign w _ d h m = cc
 
 meet_of_name : (name : List ℕ) (c d : Class) → is_of (kind.Named name) c ≡ true → is_of (kind.Named name) d ≡ true → meet c d ≡ true
+meet_of_name name (OfWord a) (OfWord b) h m = same_bytes (letters_of a) (letters_of b) name h m
+meet_of_name name (OfWord a) OfNames h m = refl
+meet_of_name name (OfWord a) _ h m = cc
+meet_of_name name OfNames (OfWord b) h m = refl
 meet_of_name name OfNames OfNames h m = refl
 meet_of_name name OfNames _ h m = cc
 meet_of_name name _ d h m = cc
@@ -65,6 +69,7 @@ meet_of_text text _ d h m = cc
 
 none_bad : (c : Class) → is_of kind.Bad c ≡ true → ⊥
 none_bad (OfKey a) h = cc
+none_bad (OfWord a) h = cc
 none_bad (OfSign a) h = cc
 none_bad OfNames h = cc
 none_bad OfNumbers h = cc
@@ -72,6 +77,7 @@ none_bad OfTexts h = cc
 
 none_end : (c : Class) → is_of kind.End c ≡ true → ⊥
 none_end (OfKey a) h = cc
+none_end (OfWord a) h = cc
 none_end (OfSign a) h = cc
 none_end OfNames h = cc
 none_end OfNumbers h = cc
@@ -144,8 +150,7 @@ so_some false h = cc
 leaf_class : (l : Leaf) (k : TokenKind) → is_some (said loose l k) ≡ true → is_of k (class_of l) ≡ true
 leaf_class (Key wanted) k h = so_some (is_key wanted k) h
 leaf_class (Sign wanted) k h = so_some (is_sign wanted k) h
-leaf_class (Word wanted) (kind.Named name) h = refl
-leaf_class (Word wanted) _ h = cc
+leaf_class (Word wanted) k h = so_some (is_word wanted k) h
 leaf_class Nought (kind.Number n) h = refl
 leaf_class Nought _ h = cc
 leaf_class AnyName (kind.Named name) h = refl

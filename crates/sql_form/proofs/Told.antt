@@ -1,5 +1,5 @@
 -- What a reading tells of the tokens that it looked at, whatever stands behind them.
-use Rattle.std.proofs.Common.{◌≡◌, ℕ, true, List, [], ◌∷◌, ◌++◌, ap, sym, ◌∙◌, refl, append_assoc}
+use Rattle.std.proofs.Common.{◌≡◌, ℕ, Bool, true, false, List, [], ◌∷◌, ◌++◌, ap, sym, ◌∙◌, refl, append_assoc}
 use Rattle.sql_lex.specs.declared.token.Token.{Token}
 use Rattle.sql_expr.specs.Got.{Got, Done, Refused}
 use Rattle.sql_expr.specs.Machine.{CantStand, WrongKind, TooDeep, TooMany}
@@ -20,8 +20,9 @@ pub record Reached (A : Type 0) (is : A → List Token → Type 0) (step : Rules
   pub again : (r : Rules) (more : List Token) → step r (front ++ next ∷ more) ≡ Done x (next ∷ more)
   pub ends : has_end rest ≡ true
 
--- it was refused: it is so under the broken rule alone, whatever stands behind the token
-pub record Halted (A : Type 0) (isl : A → List Token → Type 0) (step : Rules → List Token → Got A) (ts : List Token) (at : ℕ) : Type 0 where
+-- it was refused: it is so under the broken rule alone, whatever stands behind the token; something begins with the front that keeps
+-- the rule on texts, or not even that one
+pub record Halted (A : Type 0) (isl : Bool → A → List Token → Type 0) (step : Rules → List Token → Got A) (ts : List Token) (at : ℕ) : Type 0 where
   pub why : Breach
   pub front : List Token
   pub token : Token
@@ -29,10 +30,10 @@ pub record Halted (A : Type 0) (isl : A → List Token → Type 0) (step : Rules
   pub split : ts ≡ front ++ token ∷ others
   pub place : IsPlace why at front token
   pub again : (more : List Token) → step (rules_of why) (front ++ token ∷ more) ≡ Refused at
-  pub before : Begun A isl front
-  pub freed : is_freed why ≡ true → Begun A isl (front ++ token ∷ [])
+  pub before : Begun A (isl true) front
+  pub freed : is_freed why ≡ true → Begun A (isl false) (front ++ token ∷ [])
 
-abbrev pub Told : (A : Type 0) → (A → List Token → Type 0) → (A → List Token → Type 0) → (Rules → List Token → Got A) → List Token → Got A → Type 0
+abbrev pub Told : (A : Type 0) → (A → List Token → Type 0) → (Bool → A → List Token → Type 0) → (Rules → List Token → Got A) → List Token → Got A → Type 0
 Told A is isl step ts (Done x rest) = Reached A is step ts x rest
 Told A is isl step ts (Refused at) = Halted A isl step ts at
 
@@ -74,7 +75,7 @@ begun_made isl isl2 make kept front b = record { more = b.more; value = make b.v
 made_refused : {A B : Type 0} (make : A → B) (g : Got A) (at : ℕ) → g ≡ Refused at → made make g ≡ Refused at
 made_refused make g at h = rw h refl
 
-pub told_made : {A B : Type 0} (is isl : A → List Token → Type 0) (is2 isl2 : B → List Token → Type 0) (make : A → B) (step : Rules → List Token → Got A) (ts : List Token) → ((x : A) (us : List Token) → is x us → is2 (make x) us) → ((x : A) (us : List Token) → isl x us → isl2 (make x) us)
+pub told_made : {A B : Type 0} (is : A → List Token → Type 0) (isl : Bool → A → List Token → Type 0) (is2 : B → List Token → Type 0) (isl2 : Bool → B → List Token → Type 0) (make : A → B) (step : Rules → List Token → Got A) (ts : List Token) → ((x : A) (us : List Token) → is x us → is2 (make x) us) → ((b : Bool) (x : A) (us : List Token) → isl b x us → isl2 b (make x) us)
     → (g : Got A) → Told A is isl step ts g → Told B is2 isl2 (λ r us. made make (step r us)) ts (made make g)
 told_made is isl is2 isl2 make step ts kept keptl (Done x rest) h = record {
   front = h.front;
@@ -94,12 +95,12 @@ told_made is isl is2 isl2 make step ts kept keptl (Refused at) h = record {
   split = h.split;
   place = h.place;
   again = λ more. made_refused make (step (rules_of h.why) (h.front ++ h.token ∷ more)) at (h.again more);
-  before = begun_made isl isl2 make keptl h.front h.before;
-  freed = λ e. begun_made isl isl2 make keptl (h.front ++ h.token ∷ []) (h.freed e);
+  before = begun_made (isl true) (isl2 true) make (keptl true) h.front h.before;
+  freed = λ e. begun_made (isl false) (isl2 false) make (keptl false) (h.front ++ h.token ∷ []) (h.freed e);
 }
 
 -- another reading that does the same of tokens with the same first one
-pub told_alike : {A : Type 0} (is isl : A → List Token → Type 0) (step1 step2 : Rules → List Token → Got A) (t : Token) (ts : List Token) → ((r : Rules) (zs : List Token) → step2 r (t ∷ zs) ≡ step1 r (t ∷ zs)) → (g : Got A) → Told A is isl step1 (t ∷ ts) g → Told A is isl step2 (t ∷ ts) g
+pub told_alike : {A : Type 0} (is : A → List Token → Type 0) (isl : Bool → A → List Token → Type 0) (step1 step2 : Rules → List Token → Got A) (t : Token) (ts : List Token) → ((r : Rules) (zs : List Token) → step2 r (t ∷ zs) ≡ step1 r (t ∷ zs)) → (g : Got A) → Told A is isl step1 (t ∷ ts) g → Told A is isl step2 (t ∷ ts) g
 told_alike is isl step1 step2 t ts alike (Done x rest) h = record {
   front = h.front;
   next = h.next;
@@ -142,10 +143,10 @@ abbrev pub reached_split : {A : Type 0} {is : A → List Token → Type 0} {step
 reached_split h = h.split ∙ ap (λ (zs : List Token). h.front ++ zs) (sym h.rest_is)
 
 -- one and then the other
-told_both : {A B C : Type 0} (is_a isl_a : A → List Token → Type 0) (is_b isl_b : B → List Token → Type 0) (is_c isl_c : C → List Token → Type 0) (make : A → B → C) (step_a : Rules → List Token → Got A) (step_b : Rules → List Token → Got B) (ts : List Token)
+told_both : {A B C : Type 0} (is_a : A → List Token → Type 0) (isl_a : Bool → A → List Token → Type 0) (is_b : B → List Token → Type 0) (isl_b : Bool → B → List Token → Type 0) (is_c : C → List Token → Type 0) (isl_c : Bool → C → List Token → Type 0) (make : A → B → C) (step_a : Rules → List Token → Got A) (step_b : Rules → List Token → Got B) (ts : List Token)
     → ((x : A) (y : B) (us vs : List Token) → is_a x us → is_b y vs → is_c (make x y) (us ++ vs))
-    → ((x : A) (y : B) (us vs : List Token) → isl_a x us → isl_b y vs → isl_c (make x y) (us ++ vs))
-    → ((x : A) (us : List Token) → is_a x us → isl_a x us) → (x : A) (us : List Token) (h : Reached A is_a step_a ts x us) (g : Got B) → Told B is_b isl_b step_b us g
+    → ((b : Bool) (x : A) (y : B) (us vs : List Token) → isl_a b x us → isl_b b y vs → isl_c b (make x y) (us ++ vs))
+    → ((b : Bool) (x : A) (us : List Token) → is_a x us → isl_a b x us) → (x : A) (us : List Token) (h : Reached A is_a step_a ts x us) (g : Got B) → Told B is_b isl_b step_b us g
     → Told C is_c isl_c (λ r zs. joined make (step_a r zs) (step_b r)) ts (made (make x) g)
 told_both is_a isl_a is_b isl_b is_c isl_c make step_a step_b ts glue gluel loosen x us h (Done y vs) k = record {
   front = h.front ++ k.front;
@@ -168,18 +169,18 @@ told_both is_a isl_a is_b isl_b is_c isl_c make step_a step_b ts glue gluel loos
       place = further k.why at h.front k.front k.token k.place;
       again = λ more. ap (λ (zs : List Token). joined make (step_a (rules_of k.why) zs) (step_b (rules_of k.why))) (append_assoc h.front k.front (k.token ∷ more)) ∙ joined_second make (step_a (rules_of k.why) (h.front ++ (k.front ++ k.token ∷ more))) (step_b (rules_of k.why)) x (k.front ++ k.token ∷ more) at
           (reached_again step_a ts x us h (rules_of k.why) k.front k.token k.others more k.split) (k.again more);
-      before = record { more = k.before.more; value = make x k.before.value; is_so = rw (append_assoc h.front k.front k.before.more) (gluel x k.before.value h.front (k.front ++ k.before.more) (loosen x h.front h.is_front) k.before.is_so) };
+      before = record { more = k.before.more; value = make x k.before.value; is_so = rw (append_assoc h.front k.front k.before.more) (gluel true x k.before.value h.front (k.front ++ k.before.more) (loosen true x h.front h.is_front) k.before.is_so) };
       freed = λ e. let b = k.freed e in record {
         more = b.more;
         value = make x b.value;
-        is_so = rw (append_assoc h.front k.front (k.token ∷ []), append_assoc h.front (k.front ++ k.token ∷ []) b.more) (gluel x b.value h.front ((k.front ++ k.token ∷ []) ++ b.more) (loosen x h.front h.is_front) b.is_so);
+        is_so = rw (append_assoc h.front k.front (k.token ∷ []), append_assoc h.front (k.front ++ k.token ∷ []) b.more) (gluel false x b.value h.front ((k.front ++ k.token ∷ []) ++ b.more) (loosen false x h.front h.is_front) b.is_so);
       };
     }
 
-pub told_joined : {A B C : Type 0} (is_a isl_a : A → List Token → Type 0) (is_b isl_b : B → List Token → Type 0) (is_c isl_c : C → List Token → Type 0) (make : A → B → C) (step_a : Rules → List Token → Got A) (step_b : Rules → List Token → Got B) (ts : List Token)
+pub told_joined : {A B C : Type 0} (is_a : A → List Token → Type 0) (isl_a : Bool → A → List Token → Type 0) (is_b : B → List Token → Type 0) (isl_b : Bool → B → List Token → Type 0) (is_c : C → List Token → Type 0) (isl_c : Bool → C → List Token → Type 0) (make : A → B → C) (step_a : Rules → List Token → Got A) (step_b : Rules → List Token → Got B) (ts : List Token)
     → ((x : A) (y : B) (us vs : List Token) → is_a x us → is_b y vs → is_c (make x y) (us ++ vs))
-    → ((x : A) (y : B) (us vs : List Token) → isl_a x us → isl_b y vs → isl_c (make x y) (us ++ vs))
-    → ((x : A) (us : List Token) → is_a x us → isl_a x us) → Begun B isl_b [] → (g : Got A) → Told A is_a isl_a step_a ts g → ((x : A) (us : List Token) → Reached A is_a step_a ts x us → Told B is_b isl_b step_b us (step_b strict us))
+    → ((b : Bool) (x : A) (y : B) (us vs : List Token) → isl_a b x us → isl_b b y vs → isl_c b (make x y) (us ++ vs))
+    → ((b : Bool) (x : A) (us : List Token) → is_a x us → isl_a b x us) → ((b : Bool) → Begun B (isl_b b) []) → (g : Got A) → Told A is_a isl_a step_a ts g → ((x : A) (us : List Token) → Reached A is_a step_a ts x us → Told B is_b isl_b step_b us (step_b strict us))
     → Told C is_c isl_c (λ r zs. joined make (step_a r zs) (step_b r)) ts (joined make g (step_b strict))
 told_joined is_a isl_a is_b isl_b is_c isl_c make step_a step_b ts glue gluel loosen other (Done x us) h k = told_both is_a isl_a is_b isl_b is_c isl_c make step_a step_b ts glue gluel loosen x us h (step_b strict us) (k x us h)
 told_joined is_a isl_a is_b isl_b is_c isl_c make step_a step_b ts glue gluel loosen other (Refused at) h k = record {
@@ -190,10 +191,10 @@ told_joined is_a isl_a is_b isl_b is_c isl_c make step_a step_b ts glue gluel lo
   split = h.split;
   place = h.place;
   again = λ more. joined_first make (step_a (rules_of h.why) (h.front ++ h.token ∷ more)) (step_b (rules_of h.why)) at (h.again more);
-  before = record { more = h.before.more ++ other.more; value = make h.before.value other.value; is_so = rw (← append_assoc h.front h.before.more other.more) (gluel h.before.value other.value (h.front ++ h.before.more) other.more h.before.is_so other.is_so) };
-  freed = λ e. let b = h.freed e in record {
-    more = b.more ++ other.more;
-    value = make b.value other.value;
-    is_so = rw (← append_assoc (h.front ++ h.token ∷ []) b.more other.more) (gluel b.value other.value ((h.front ++ h.token ∷ []) ++ b.more) other.more b.is_so other.is_so);
+  before = let o = other true in record { more = h.before.more ++ o.more; value = make h.before.value o.value; is_so = rw (← append_assoc h.front h.before.more o.more) (gluel true h.before.value o.value (h.front ++ h.before.more) o.more h.before.is_so o.is_so) };
+  freed = λ e. let b = h.freed e in let o = other false in record {
+    more = b.more ++ o.more;
+    value = make b.value o.value;
+    is_so = rw (← append_assoc (h.front ++ h.token ∷ []) b.more o.more) (gluel false b.value o.value ((h.front ++ h.token ∷ []) ++ b.more) o.more b.is_so o.is_so);
   };
 }

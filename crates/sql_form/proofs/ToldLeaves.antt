@@ -31,7 +31,7 @@ use Rattle.sql_form.specs.Read.{taken, chosen, named, tabled, read}
 use Rattle.sql_form.specs.Laws.{has_end, IsPlace}
 use Rattle.sql_form.proofs.Shorter.{said_end}
 use Rattle.sql_form.proofs.Beginning.{looser_said}
-use Rattle.sql_form.proofs.Samples.{Begun, sample}
+use Rattle.sql_form.proofs.Samples.{Begun, FreeForm, sample}
 use Rattle.sql_form.proofs.Told.{Halted, Told}
 
 -- tokens with an end have a first one
@@ -66,7 +66,7 @@ looser_none : (r : Rules) (l : Leaf) (k : TokenKind) (o : Option (LeafValue l)) 
 looser_none r l k None h is = refl
 looser_none r l k (Some x) h is = let e = looser_said r loose l k x (λ e. cc) is in cc
 
-halted_leaf : (l : Leaf) (t : Token) (ts : List Token) (o : Option (LeafValue l)) → said strict l t.kind ≡ None → said loose l t.kind ≡ o → Halted (LeafValue l) (IsForm loose (One l)) (λ r. read r (One l)) (t ∷ ts) t.at
+halted_leaf : (l : Leaf) (t : Token) (ts : List Token) (o : Option (LeafValue l)) → said strict l t.kind ≡ None → said loose l t.kind ≡ o → Halted (LeafValue l) (FreeForm (One l)) (λ r. read r (One l)) (t ∷ ts) t.at
 halted_leaf l t ts None h k = record {
   why = OfForm;
   front = [];
@@ -75,7 +75,7 @@ halted_leaf l t ts None h k = record {
   split = refl;
   place = refl;
   again = λ more. rw k refl;
-  before = sample (One l);
+  before = sample true (One l);
   freed = λ e. cc;
 }
 halted_leaf l t ts (Some x) h k = record {
@@ -86,11 +86,11 @@ halted_leaf l t ts (Some x) h k = record {
   split = refl;
   place = refl;
   again = λ more. let e : said (rules_of OfText) l t.kind ≡ None = said_same (rules_of OfText) strict l t.kind refl ∙ h in rw e refl;
-  before = sample (One l);
+  before = sample true (One l);
   freed = λ e. record { more = []; value = x; is_so = (t, refl, k) };
 }
 
-told_said : (l : Leaf) (t : Token) (ts : List Token) → has_end (t ∷ ts) ≡ true → (o : Option (LeafValue l)) → said strict l t.kind ≡ o → Told (LeafValue l) (IsForm strict (One l)) (IsForm loose (One l)) (λ r. read r (One l)) (t ∷ ts) (taken o (t ∷ ts))
+told_said : (l : Leaf) (t : Token) (ts : List Token) → has_end (t ∷ ts) ≡ true → (o : Option (LeafValue l)) → said strict l t.kind ≡ o → Told (LeafValue l) (IsForm strict (One l)) (FreeForm (One l)) (λ r. read r (One l)) (t ∷ ts) (taken o (t ∷ ts))
 told_said l t ts e None is = halted_leaf l t ts (said loose l t.kind) is refl
 told_said l t ts e (Some x) is =
     let ends = end_behind t ts (no_end strict l t.kind x is) e in
@@ -106,7 +106,7 @@ told_said l t ts e (Some x) is =
       ends = ends;
     }
 
-pub told_one : (l : Leaf) (ts : List Token) → has_end ts ≡ true → Told (LeafValue l) (IsForm strict (One l)) (IsForm loose (One l)) (λ r. read r (One l)) ts (read strict (One l) ts)
+pub told_one : (l : Leaf) (ts : List Token) → has_end ts ≡ true → Told (LeafValue l) (IsForm strict (One l)) (FreeForm (One l)) (λ r. read r (One l)) ts (read strict (One l) ts)
 told_one l [] e = cc
 told_one l (t ∷ ts) e = told_said l t ts e (said strict l t.kind) refl
 
@@ -123,7 +123,7 @@ and_both true b h = (refl, h)
 and_both false b h = cc
 
 abbrev TableTold : List Token → Got (List ℕ) → Type 0
-TableTold ts g = Told (List ℕ) (IsForm strict Table) (IsForm loose Table) (λ r. read r Table) ts g
+TableTold ts g = Told (List ℕ) (IsForm strict Table) (FreeForm Table) (λ r. read r Table) ts g
 
 named_dbo : (t : Token) (name : List ℕ) → name_of t.kind ≡ Some name → bytes_eq name (letters_of place.Dbo) ≡ true → name_of t.kind ≡ Some (letters_of place.Dbo)
 named_dbo t name is h = is ∙ ap (λ (n : List ℕ). Some n) ((bytes_eq-Decides name (letters_of place.Dbo)).0 h)
@@ -186,7 +186,7 @@ told_named t ts e None is = record {
   split = refl;
   place = refl;
   again = λ more. rw is refl;
-  before = sample Table;
+  before = sample true Table;
   freed = λ k. cc;
 }
 told_named t ts e (Some name) is =
@@ -242,7 +242,7 @@ end_front [] vs never h = h
 end_front (u ∷ us) vs never h = end_front us vs (λ e. never (later_end (is_end u.kind) (has_end us) e)) (other_end (is_end u.kind) (has_end us) (has_end (us ++ vs)) never h)
 
 abbrev ExprTold : Bool → Bool → List Token → Got Tree → Type 0
-ExprTold names truth ts g = Told Tree (IsForm strict (Expr names truth)) (IsForm loose (Expr names truth)) (λ r. read r (Expr names truth)) ts g
+ExprTold names truth ts g = Told Tree (IsForm strict (Expr names truth)) (FreeForm (Expr names truth)) (λ r. read r (Expr names truth)) ts g
 
 told_ended : (names truth : Bool) (ts : List Token) (out : Part) (left : ℕ) (rest : List Token) → has_end ts ≡ true → reading names expr_rules.strict truth ts ≡ Ended out left rest → ExprTold names truth ts (Done out.tree rest)
 told_ended names truth ts out left rest e h =
@@ -269,8 +269,8 @@ expr_place names CantStand at front t h = h
 expr_place names TooDeep at front t h = h
 expr_place names TooMany at front t h = h
 
-abbrev expr_begun : (names truth : Bool) (front : List Token) → expr.Begins names expr_rules.loose truth front → Begun Tree (IsForm loose (Expr names truth)) front
-expr_begun names truth front b = record { more = b.more; value = b.tree; is_so = b.whole }
+abbrev expr_begun : (texts names truth : Bool) (front : List Token) → expr.Begins names expr_rules.loose truth front → Begun Tree (FreeForm (Expr names truth) texts) front
+expr_begun texts names truth front b = record { more = b.more; value = b.tree; is_so = b.whole }
 
 told_stopped : (names truth : Bool) (ts : List Token) (why : Fault) (at : ℕ) → reading names expr_rules.strict truth ts ≡ Stopped why at → ExprTold names truth ts (Refused at)
 told_stopped names truth ts why at h =
@@ -285,8 +285,8 @@ told_stopped names truth ts why at h =
       place = expr_place names why at t.front t.token (place_of names truth why at t.front t.token t.stack t.now t.spare t.leads s.stops (rw s.stops at (placed_feed names expr_rules.strict t.stack t.now t.spare t.token)));
       again = λ more. ap got (run_append names (expr.broken why) t.front (t.token ∷ more) (whole truth) t.stack no_part t.now 1000 t.spare (same_run names (expr.broken why) t.front (whole truth) t.stack no_part t.now 1000 t.spare t.leads)
           ∙ ap (go_on t.token more (λ s2 p2 m2. run names (expr.broken why) s2 p2 m2 more)) ((rw s.stops at (agree_feed names (expr.broken why) t.stack t.now t.spare t.token)) (holds_broken why)));
-      before = expr_begun names truth t.front (front_begins names expr_rules.strict truth t.front t.stack t.now t.spare t.leads);
-      freed = λ e. expr_begun names truth (t.front ++ t.token ∷ []) (unlimited_begins names truth t.front t.token t.stack t.now t.spare why at t.leads s.stops e);
+      before = expr_begun true names truth t.front (front_begins names expr_rules.strict truth t.front t.stack t.now t.spare t.leads);
+      freed = λ e. expr_begun false names truth (t.front ++ t.token ∷ []) (unlimited_begins names truth t.front t.token t.stack t.now t.spare why at t.leads s.stops e);
     }
 
 told_outcome : (names truth : Bool) (ts : List Token) → has_end ts ≡ true → (o : Outcome) → reading names expr_rules.strict truth ts ≡ o → ExprTold names truth ts (got o)

@@ -8,14 +8,14 @@ use Rattle.sql_lex.specs.declared.token.TokenKind.TheVariants as kind
 use Rattle.sql_lex.specs.Ahead.{first_of}
 use Rattle.sql_lex.specs.Tokens.{is_end}
 use Rattle.sql_expr.specs.Got.{Got, Done, Refused, and_then}
-use Rattle.sql_form.specs.Rules.{Rules, strict, loose, OfParts, rules_of}
+use Rattle.sql_form.specs.Rules.{Rules, strict, OfParts, rules_of}
 use Rattle.sql_form.specs.Form.{is_sign, name_of, Form, Value}
 use Rattle.sql_form.specs.Grammar.{counts, is_solid, first, IsPlain, is_full, spared, IsList, IsForm}
 use Rattle.sql_form.specs.Read.{chosen, made, limited, followed, read}
 use Rattle.sql_form.specs.Laws.{has_end}
 use Rattle.sql_form.proofs.BoolLemmas.{true_not}
 use Rattle.sql_form.proofs.Beginning.{none_needed}
-use Rattle.sql_form.proofs.Samples.{sample, begun, loosened}
+use Rattle.sql_form.proofs.Samples.{FreeForm, sample, begun, relaxed}
 use Rattle.sql_form.proofs.Shorter.{parts_from, parts_on}
 use Rattle.sql_form.proofs.Told.{Reached, Told, told_alike, further, joins_split, reached_split, reached_again}
 use Rattle.sql_form.proofs.ToldLeaves.{some_first, end_behind}
@@ -52,7 +52,7 @@ abbrev list_from : (r : Rules) (every : Bool) (part : Form) → ℕ → List Tok
 list_from r every part n ts = and_then (read r part ts) (λ x us. followed x (parts_from r every part n) us)
 
 abbrev ListTold : (every : Bool) (part : Form) → ℕ → (Rules → List Token → Got (List (Value part))) → List Token → Got (List (Value part)) → Type 0
-ListTold every part n step ts g = Told (List (Value part)) (IsList (IsForm strict part) true (counts every part) n) (IsList (IsForm loose part) false (counts every part) n) step ts g
+ListTold every part n step ts g = Told (List (Value part)) (IsList (IsForm strict part) true (counts every part) n) (λ b. IsList (FreeForm part b) false (counts every part) n) step ts g
 
 followed_done : {A : Type 0} (g : Got A) (more : List Token → Got (List A)) (x : A) (d : Token) (zs : List Token) (ys : List A) (vs : List Token) → g ≡ Done x (d ∷ zs) → is_sign mark.Comma d.kind ≡ true → more zs ≡ Done ys vs
     → and_then g (λ y us. followed y more us) ≡ Done (x ∷ ys) vs
@@ -118,13 +118,13 @@ tells_more every part p solid n t ts room x us h d ws us_is c (Refused at) k =
         more = k.before.more;
         value = x ∷ k.before.value;
         is_so = rw (append_assoc h.front (d ∷ k.front) k.before.more)
-            (more_parts (IsForm loose part) false (counts every part) n t d x k.before.value h.front (k.front ++ k.before.more) (loosened strict part x h.front h.is_front) starts refl c k.before.is_so);
+            (more_parts (FreeForm part true) false (counts every part) n t d x k.before.value h.front (k.front ++ k.before.more) (relaxed true part x h.front h.is_front) starts refl c k.before.is_so);
       };
       freed = λ e. let b = k.freed e in record {
         more = b.more;
         value = x ∷ b.value;
         is_so = rw (append_assoc h.front (d ∷ k.front) (k.token ∷ []), append_assoc h.front ((d ∷ k.front) ++ k.token ∷ []) b.more)
-            (more_parts (IsForm loose part) false (counts every part) n t d x b.value h.front ((k.front ++ k.token ∷ []) ++ b.more) (loosened strict part x h.front h.is_front) starts refl c b.is_so);
+            (more_parts (FreeForm part false) false (counts every part) n t d x b.value h.front ((k.front ++ k.token ∷ []) ++ b.more) (relaxed false part x h.front h.is_front) starts refl c b.is_so);
       };
     }
 
@@ -152,7 +152,7 @@ tells_last every part p solid n t ts room x us h d ws us_is false c more =
 
 tells_followed : (every : Bool) (part : Form) → IsPlain part → is_solid part ≡ true → (n : ℕ) (t : Token) (ts : List Token) → is_full true (counts every part t.kind) n ≡ false
     → ((vs : List Token) → length vs < length (t ∷ ts) → has_end vs ≡ true → ListTold every part (spared (counts every part t.kind) n) (λ r. parts_from r every part (spared (counts every part t.kind) n)) vs (parts_from strict every part (spared (counts every part t.kind) n) vs))
-    → (g : Got (Value part)) → Told (Value part) (IsForm strict part) (IsForm loose part) (λ r. read r part) (t ∷ ts) g
+    → (g : Got (Value part)) → Told (Value part) (IsForm strict part) (FreeForm part) (λ r. read r part) (t ∷ ts) g
     → ListTold every part n (λ r. list_from r every part (spared (counts every part t.kind) n)) (t ∷ ts) (and_then g (λ x us. followed x (parts_from strict every part (spared (counts every part t.kind) n)) us))
 tells_followed every part p solid n t ts room more (Done x us) h =
     let s = some_first us h.ends in
@@ -181,11 +181,11 @@ tells_limited every part p solid begins n t ts more h true full = record {
   split = refl;
   place = refl;
   again = λ zs. parts_on (rules_of OfParts) every part p solid n (t ∷ zs) ∙ limited_full (is_full true (counts every part t.kind) n) t.at (list_from (rules_of OfParts) every part (spared (counts every part t.kind) n) (t ∷ zs)) full;
-  before = let b = sample part in record { more = b.more; value = b.value ∷ []; is_so = (b.is_so, refl) };
+  before = let b = sample true part in record { more = b.more; value = b.value ∷ []; is_so = (b.is_so, refl) };
   freed = λ e. let b = begun part t (begins t.kind (full_counted (counts every part t.kind) n full)) in record { more = b.more; value = b.value ∷ []; is_so = (b.is_so, refl) };
 }
 tells_limited every part p solid begins n t ts more h false room =
-    told_alike (IsList (IsForm strict part) true (counts every part) n) (IsList (IsForm loose part) false (counts every part) n) (λ r. list_from r every part (spared (counts every part t.kind) n)) (λ r. parts_from r every part n) t ts
+    told_alike (IsList (IsForm strict part) true (counts every part) n) (λ b. IsList (FreeForm part b) false (counts every part) n) (λ r. list_from r every part (spared (counts every part t.kind) n)) (λ r. parts_from r every part n) t ts
     (λ r zs. parts_on r every part p solid n (t ∷ zs) ∙ limited_free (is_full r.parts (counts every part t.kind) n) t.at (list_from r every part (spared (counts every part t.kind) n) (t ∷ zs)) (full_less r.parts (counts every part t.kind) n room))
     (list_from strict every part (spared (counts every part t.kind) n) (t ∷ ts)) (tells_followed every part p solid n t ts room more (read strict part (t ∷ ts)) h)
 

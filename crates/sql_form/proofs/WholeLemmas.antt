@@ -13,7 +13,7 @@ use Rattle.sql_form.specs.Grammar.{IsPlain, continues, IsForm}
 use Rattle.sql_form.specs.Read.{chosen, read, closed, read_whole}
 use Rattle.sql_form.specs.Laws.{has_end, Begins, IsRefused, IsAll}
 use Rattle.sql_form.proofs.Complete.{complete}
-use Rattle.sql_form.proofs.Samples.{loosened}
+use Rattle.sql_form.proofs.Samples.{relaxed}
 use Rattle.sql_form.proofs.Shorter.{continues_end}
 use Rattle.sql_form.proofs.Told.{Reached}
 use Rattle.sql_form.proofs.FormLaws.{reached, refused_is}
@@ -81,7 +81,7 @@ refused_case f p ts y us at h false e k =
         others = h.others;
         split = h.split;
         place = sym place ∙ ap (λ (t : Token). t.at) next_is;
-        before = record { more = []; value = y; is = rw (append-nil h.front) (loosened strict f y h.front h.is_front) };
+        before = record { more = []; value = y; is = rw (append-nil h.front) (relaxed true f y h.front h.is_front) };
         none = none_longer f p loose h.front h.next y (h.again loose);
         freed = λ free. cc;
       },

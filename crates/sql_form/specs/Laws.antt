@@ -4,7 +4,7 @@ use Rattle.sql_lex.specs.declared.token.Token.{Token}
 use Rattle.sql_lex.specs.Tokens.{is_end}
 use Rattle.sql_expr.specs.Machine.{WrongKind}
 use Rattle.sql_expr.specs.Laws.{IsPart}
-use Rattle.sql_form.specs.Rules.{Rules, strict, loose, Breach, OfExpr, rules_of, is_freed}
+use Rattle.sql_form.specs.Rules.{Rules, strict, loose, named_texts, Breach, OfExpr, rules_of, is_freed}
 use Rattle.sql_form.specs.Form.{Form, Value}
 use Rattle.sql_form.specs.Grammar.{IsForm}
 
@@ -30,16 +30,17 @@ abbrev pub IsPlace : Breach → ℕ → List Token → Token → Type 0
 IsPlace (OfExpr WrongKind) at front t = (names : Bool) × IsPart names front at
 IsPlace _ at front t = at ≡ t.at
 
--- The tokens are refused at this place: the front begins something of the form, its rules left aside, and nothing that keeps the
--- broken rule begins with the front and the token behind it; where that rule is a limit, or asks a text for a name, something that
--- keeps no rules does.
+-- The tokens are refused at this place. The front could stand: something of the form begins with it, in which texts are names where
+-- they must. Limits and kinds are left aside there, since a front within a limit may leave no room for what has to follow, as the
+-- comma behind the last part that may come. The token can't: nothing that keeps the broken rule begins with the front and the token;
+-- where that rule is a limit, or asks a text for a name, something that keeps no rules does.
 pub record IsRefused (f : Form) (ts : List Token) (why : Breach) (at : ℕ) : Type 0 where
   pub front : List Token
   pub token : Token
   pub others : List Token
   pub split : ts ≡ front ++ token ∷ others
   pub place : IsPlace why at front token
-  pub before : Begins loose f front
+  pub before : Begins named_texts f front
   pub none : Begins (rules_of why) f (front ++ token ∷ []) → ⊥
   pub freed : is_freed why ≡ true → Begins loose f (front ++ token ∷ [])
 

@@ -1,20 +1,25 @@
 -- A test of whether one token tells how to go on, from the classes of tokens with which forms begin and go on.
 use Rattle.std.specs.Prelude.{Bool, true, false, ◌&&◌, not, List, [], ◌∷◌, ◌++◌}
 use Rattle.std.specs.List.{list_all}
+use Rattle.std.specs.Str.{bytes_eq}
+use Rattle.sql_lex.specs.declared.context_word.ContextWord.{ContextWord}
 use Rattle.sql_lex.specs.declared.keyword.Keyword.{Keyword}
 use Rattle.sql_lex.specs.declared.keyword.Keyword.TheVariants as word
 use Rattle.sql_lex.specs.declared.token.Mark.{Mark}
 use Rattle.sql_lex.specs.declared.token.Mark.TheVariants as mark
 use Rattle.sql_lex.specs.declared.token.TokenKind.{TokenKind}
 use Rattle.sql_lex.specs.declared.token.TokenKind.TheVariants as kind
-use Rattle.sql_lex.specs.Words.{is_same, is_same_mark}
-use Rattle.sql_form.specs.Form.{Leaf, Key, Word, Sign, Nought, AnyName, AnyNumber, FileText, NameText, is_key, is_sign, Form, One, Table, Expr, Then, Or, May, Many, Parts}
+use Rattle.sql_lex.specs.Words.{is_same, is_same_mark, letters_of}
+use Rattle.sql_form.specs.Form.{Leaf, Key, Word, Sign, Nought, AnyName, AnyNumber, FileText, NameText, is_key, is_word, is_sign, Form, One, Table, Expr, Then, Or, May, Many, Parts}
 use Rattle.sql_form.specs.Grammar.{is_solid}
 
 -- a class of tokens
 pub data Class : Type 0 where
   OfKey : (word : Keyword) → Class
+  -- one word that has a meaning in its place alone, without brackets
+  OfWord : (word : ContextWord) → Class
   OfSign : (mark : Mark) → Class
+  -- all names, those words among them
   OfNames : Class
   OfNumbers : Class
   OfTexts : Class
@@ -22,7 +27,10 @@ pub data Class : Type 0 where
 -- whether two classes have a token in common
 abbrev pub meet : Class → Class → Bool
 meet (OfKey a) (OfKey b) = is_same a b
+meet (OfWord a) (OfWord b) = bytes_eq (letters_of a) (letters_of b)
+meet (OfWord a) OfNames = true
 meet (OfSign a) (OfSign b) = is_same_mark a b
+meet OfNames (OfWord b) = true
 meet OfNames OfNames = true
 meet OfNumbers OfNumbers = true
 meet OfTexts OfTexts = true
@@ -31,6 +39,7 @@ meet _ _ = false
 -- whether a token is of the class
 abbrev pub is_of : TokenKind → Class → Bool
 is_of k (OfKey word) = is_key word k
+is_of k (OfWord word) = is_word word k
 is_of k (OfSign mark) = is_sign mark k
 is_of (kind.Named name) OfNames = true
 is_of (kind.Bracketed name) OfNames = true
@@ -45,7 +54,7 @@ are_apart cs ds = list_all (λ c. list_all (λ d. not (meet c d)) ds) cs
 -- the class of one token
 abbrev pub class_of : Leaf → Class
 class_of (Key word) = OfKey word
-class_of (Word wanted) = OfNames
+class_of (Word wanted) = OfWord wanted
 class_of (Sign mark) = OfSign mark
 class_of Nought = OfNumbers
 class_of AnyName = OfNames

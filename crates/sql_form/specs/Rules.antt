@@ -18,6 +18,10 @@ strict = record { exprs = expr.strict; parts = true; texts = true }
 abbrev pub loose : Rules
 loose = record { exprs = expr.loose; parts = false; texts = false }
 
+-- that texts are names where they must, and no other
+abbrev pub named_texts : Rules
+named_texts = record { exprs = expr.loose; parts = false; texts = true }
+
 -- what a refusal is against: the productions alone, a rule of expressions, the limit of parts, or that a text is a name
 pub data Breach : Type 0 where
   OfForm : Breach
@@ -30,7 +34,7 @@ abbrev pub rules_of : Breach → Rules
 rules_of OfForm = loose
 rules_of (OfExpr fault) = record { exprs = broken fault; parts = false; texts = false }
 rules_of OfParts = record { exprs = expr.loose; parts = true; texts = false }
-rules_of OfText = record { exprs = expr.loose; parts = false; texts = true }
+rules_of OfText = named_texts
 
 -- the breach is of a limit, or of a text that is no name: without the rules the token could stand
 abbrev pub is_freed : Breach → Bool

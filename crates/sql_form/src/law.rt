@@ -21,7 +21,8 @@ pub fn what_is_of_a_form_is_read()
     ensures { (r : Rules) (f : Form) → IsPlain f → (x : Value f) (front rest : List Token) (next : Token) → IsForm r f x front → continues f next.kind ≡ false → read r f (front ++ next ∷ rest) ≡ Done x (next ∷ rest) }
 {}
 
-/// What is refused is refused where the grammar, or one of its rules, leaves nothing of the form.
+/// What is refused is refused behind a front that could stand, limits and kinds left aside, and where the grammar, or one of its
+/// rules, leaves nothing of the form.
 pub fn what_is_refused_is_of_no_form()
     ensures { (f : Form) → IsPlain f → (ts : List Token) (at : ℕ) → has_end ts ≡ true → read strict f ts ≡ Refused at → (why : Breach) × IsRefused f ts why at }
 {}
@@ -42,7 +43,8 @@ pub fn what_is_read_whole_is_of_the_form()
     ensures complete { (f : Form) → IsPlain f → (x : Value f) (front rest : List Token) (last : Token) → IsForm strict f x front → is_end last.kind ≡ true → read_whole f (front ++ last ∷ rest) ≡ Done x (last ∷ rest) }
 {}
 
-/// Where they are refused, nothing of the form begins with the tokens up to the wrong one.
+/// Where they are refused, something of the form begins with the tokens before the wrong one, limits and kinds left aside, and
+/// nothing with those up to it that keeps the broken rule.
 pub fn what_is_refused_whole_is_of_no_form()
     ensures { (f : Form) → IsPlain f → (ts : List Token) (at : ℕ) → has_end ts ≡ true → read_whole f ts ≡ Refused at → (why : Breach) × IsRefused f ts why at }
 {}

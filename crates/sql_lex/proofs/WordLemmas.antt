@@ -142,11 +142,16 @@ name_spelled letters form other = (word_is_name letters form.0 (leb-true _ _ for
 
 -- a word with a meaning in its place alone is spelled as a name
 pub word_spelled : (word : ContextWord) → Spells (letters_of word) (kind.Named (letters_of word))
+word_spelled place.Committed = name_spelled (codes "committed") ((refl, refl, refl), refl, refl) refl
 word_spelled place.DatabaseSnapshot = name_spelled (codes "database_snapshot") ((refl, refl, refl), refl, refl) refl
 word_spelled place.Dbo = name_spelled (codes "dbo") ((refl, refl, refl), refl, refl) refl
 word_spelled place.Filename = name_spelled (codes "filename") ((refl, refl, refl), refl, refl) refl
+word_spelled place.Isolation = name_spelled (codes "isolation") ((refl, refl, refl), refl, refl) refl
+word_spelled place.Level = name_spelled (codes "level") ((refl, refl, refl), refl, refl) refl
 word_spelled place.LockTimeout = name_spelled (codes "lock_timeout") ((refl, refl, refl), refl, refl) refl
 word_spelled place.Name = name_spelled (codes "name") ((refl, refl, refl), refl, refl) refl
+word_spelled place.Read = name_spelled (codes "read") ((refl, refl, refl), refl, refl) refl
+word_spelled place.Serializable = name_spelled (codes "serializable") ((refl, refl, refl), refl, refl) refl
 word_spelled place.Snapshot = name_spelled (codes "snapshot") ((refl, refl, refl), refl, refl) refl
 word_spelled place.Work = name_spelled (codes "work") ((refl, refl, refl), refl, refl) refl
 

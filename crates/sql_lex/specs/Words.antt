@@ -2,7 +2,7 @@
 use Rattle.std.specs.Prelude.{ℕ, Bool, List, [], ◌∷◌, codes, Option, find}
 use Rattle.std.specs.Str.{bytes_eq}
 use Rattle.sql_lex.specs.declared.context_word.ContextWord.{ContextWord}
-use Rattle.sql_lex.specs.declared.context_word.ContextWord.TheVariants.{DatabaseSnapshot, Dbo, Filename, LockTimeout, Name, Snapshot, Work}
+use Rattle.sql_lex.specs.declared.context_word.ContextWord.TheVariants.{Committed, DatabaseSnapshot, Dbo, Filename, Isolation, Level, LockTimeout, Name, Read, Serializable, Snapshot, Work}
 use Rattle.sql_lex.specs.declared.token.Mark.{Mark}
 use Rattle.sql_lex.specs.declared.token.Mark.TheVariants.{Open, Close, Comma, Semicolon, Dot, Star, Plus, Minus, Equal, NotEqual, Less, AtMost, Greater, AtLeast}
 use Rattle.sql_lex.specs.declared.keyword.Keyword.{Keyword}
@@ -68,11 +68,16 @@ is_same a b = bytes_eq (text_of a) (text_of b)
 
 -- a word that has a meaning in its place alone, in lower case
 abbrev pub letters_of : ContextWord → List ℕ
+letters_of Committed = codes "committed"
 letters_of DatabaseSnapshot = codes "database_snapshot"
 letters_of Dbo = codes "dbo"
 letters_of Filename = codes "filename"
+letters_of Isolation = codes "isolation"
+letters_of Level = codes "level"
 letters_of LockTimeout = codes "lock_timeout"
 letters_of Name = codes "name"
+letters_of Read = codes "read"
+letters_of Serializable = codes "serializable"
 letters_of Snapshot = codes "snapshot"
 letters_of Work = codes "work"
 

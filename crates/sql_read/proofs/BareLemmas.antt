@@ -4,6 +4,7 @@ use Rattle.std.proofs.Common.{◌≡◌, ℕ, Bool, List, [], ◌∷◌, length,
 use Rattle.plain_model.specs.declared.expr.Expr.{Expr}
 use Rattle.plain_model.specs.declared.stmt.Items.{Items}
 use Rattle.plain_model.specs.declared.stmt.Items.TheVariants as items
+use Rattle.plain_model.specs.declared.stmt.Level.{Level}
 use Rattle.plain_model.specs.declared.stmt.OrderItem.{OrderItem}
 use Rattle.plain_model.specs.declared.stmt.SetItem.{SetItem}
 use Rattle.plain_model.specs.declared.stmt.SnapFile.{SnapFile}
@@ -23,9 +24,16 @@ use Rattle.table_def.specs.Defined.{columns_of}
 use Rattle.sql_form.specs.Form.{Value, Left, Right}
 use Rattle.sql_stmt.specs.Defining.{SaysVarchar, SaysType, SaysColumnPart, SaysKeyPart, SaysPart}
 use Rattle.sql_stmt.specs.Defining as defining
-use Rattle.sql_stmt.specs.Saying.{SaysName, SaysExpr, SayEach, SaysOption, SaysList, SaysFilter, SaysColumns, SaysRow, SaysSum, SaysSums, SaysShown, SaysDown, SaysOrderItem, SaysOrder, SaysSelectSums, SaysSelectRows, SaysSetting, SaysFile}
-use Rattle.sql_stmt.specs.Stmts.{SaysUse, SaysCreateTable, SaysCreateSnap, SaysCreate, SaysDropTable, SaysDropDatabase, SaysDrop, SaysStructure, SaysInsertion, SaysUpdating, SaysDeletion, SaysChange, SaysBegin, SaysCommit, SaysRollback, SaysTimeout, SaysRestore, SaysTurn, SaysSelection, SaysStatement, SaysEnded}
-use Rattle.sql_stmt.specs.Statements.{use_database, create_snap, create_table, create, drop_table, drop_database, drop, structure, insert, update, delete, change, begin_transaction, commit, rollback, set_timeout, restore, turn, select, select_sums, select_rows, statement, ended, where_truth, row, column_list, aggregate, shown, direction, order_item, order_by, setting, snap_file, varchar, column_type, column_option, column_part, table_part}
+use Rattle.sql_stmt.specs.Saying.{SaysName, SaysExpr, SayEach, SaysOption, SaysList, SaysFilter, SaysColumns, SaysRow, SaysSetting, SaysFile}
+use Rattle.sql_stmt.specs.Selecting.{SaysSum, SaysSums, SaysShown, SaysDown, SaysOrderItem, SaysOrder, SaysSelectSums, SaysSelectRows}
+use Rattle.sql_stmt.specs.Stmts.{SaysUse, SaysCreateTable, SaysCreateSnap, SaysCreate, SaysDropTable, SaysDropDatabase, SaysDrop, SaysStructure, SaysInsertion, SaysUpdating, SaysDeletion, SaysChange, SaysBegin, SaysCommit, SaysRollback, SaysTimeout, SaysLevel, SaysIsolation, SaysSet, SaysRestore, SaysTurn, SaysSelection, SaysStatement, SaysEnded}
+use Rattle.sql_stmt.specs.ChangeForms.{insert, update, delete, row, setting}
+use Rattle.sql_stmt.specs.DatabaseForms.{create_snap, drop_database, restore, snap_file}
+use Rattle.sql_stmt.specs.Pieces.{where_truth, column_list}
+use Rattle.sql_stmt.specs.SelectForms.{select, select_sums, select_rows, aggregate, shown, direction, order_item, order_by}
+use Rattle.sql_stmt.specs.SessionForms.{use_database, begin_transaction, commit, rollback, timeout, level, isolation, set_session}
+use Rattle.sql_stmt.specs.Statements.{create, drop, structure, change, turn, statement, ended}
+use Rattle.sql_stmt.specs.TableForms.{create_table, drop_table, varchar, column_type, column_option, column_part, table_part}
 use Rattle.sql_read.specs.Bare.{Bare, BareItems, bare, bare_sum, bare_items, bare_set}
 use Rattle.sql_read.specs.Grammar.{IsBatch}
 use Rattle.sql_read.proofs.BatchLemmas.{same_value}
@@ -226,10 +234,23 @@ rollback_same stmt.Rollback stmt.Rollback v h k = refl
 rollback_same stmt.Rollback _ v h k = absurd k
 rollback_same _ u v h k = absurd h
 
-timeout_same : (s u : Stmt) (v : Value set_timeout) → SaysTimeout s v → SaysTimeout u v → bare s ≡ bare u
+timeout_same : (s u : Stmt) (v : Value timeout) → SaysTimeout s v → SaysTimeout u v → bare s ≡ bare u
 timeout_same stmt.LockTimeoutZero stmt.LockTimeoutZero v h k = refl
 timeout_same stmt.LockTimeoutZero _ v h k = absurd k
 timeout_same _ u v h k = absurd h
+
+level_same : (a b : Level) (v : Value level) → SaysLevel a v → SaysLevel b v → a ≡ b
+level_same a b (Left v) h k = h ∙ sym k
+level_same a b (Right v) h k = h ∙ sym k
+
+isolation_same : (s u : Stmt) (v : Value isolation) → SaysIsolation s v → SaysIsolation u v → bare s ≡ bare u
+isolation_same (stmt.SetLevel a) (stmt.SetLevel b) (transaction, (isolation, (level, v))) h k = rw (level_same a b v h k) refl
+isolation_same (stmt.SetLevel a) _ v h k = absurd k
+isolation_same _ u v h k = absurd h
+
+session_same : (s u : Stmt) (v : Value set_session) → SaysSet s v → SaysSet u v → bare s ≡ bare u
+session_same s u (word, Left v) h k = timeout_same s u v h k
+session_same s u (word, Right v) h k = isolation_same s u v h k
 
 restore_same : (s u : Stmt) (v : Value restore) → SaysRestore s v → SaysRestore u v → bare s ≡ bare u
 restore_same (stmt.Restore a b) (stmt.Restore c d) (word, (database, (name, (from, (snap_word, (equal, text)))))) h k = rw (h.0, k.0, h.1, k.1) refl
@@ -258,7 +279,7 @@ turn_same : (s u : Stmt) (v : Value turn) → SaysTurn s v → SaysTurn u v → 
 turn_same s u (Left v) h k = begin_same s u v h k
 turn_same s u (Right (Left v)) h k = commit_same s u v h k
 turn_same s u (Right (Right (Left v))) h k = rollback_same s u v h k
-turn_same s u (Right (Right (Right (Left v)))) h k = timeout_same s u v h k
+turn_same s u (Right (Right (Right (Left v)))) h k = session_same s u v h k
 turn_same s u (Right (Right (Right (Right v)))) h k = restore_same s u v h k
 
 statement_same : (s u : Stmt) (v : Value statement) → SaysStatement s v → SaysStatement u v → bare s ≡ bare u

@@ -12,9 +12,9 @@ use Rattle.sql_form.specs.Rules.{Breach}
 use Rattle.sql_stmt.specs.Statements.{batch}
 use Rattle.sql_read.specs.Grammar.{IsBatch}
 
--- The bytes are no batch of the grammar, and this is the place: that of the first token that can't stand behind those before it,
--- with which some batch begins, by the productions or by a rule beside them; or that of the part of an expression which is
--- complete and of the wrong kind.
+-- The bytes are no batch of the grammar, and this is the place: that of the first token that can't stand, or that of the part of an
+-- expression which the token finds complete and of the wrong kind. Some batch begins with the tokens before it, limits and kinds
+-- left aside, and none that keeps the broken rule with those up to it.
 pub record IsRefusedAt (bytes : List ℕ) (at : ℕ) : Type 0 where
   pub tokens : List Token
   pub lexes : Lexes 0 bytes tokens

@@ -23,7 +23,8 @@ use Rattle.table_def.specs.Parts.{written}
 use Rattle.sql_stmt.specs.Answers.{Gives}
 use Rattle.sql_stmt.specs.Defining.{SaysPart}
 use Rattle.sql_stmt.specs.Saying.{SayEach}
-use Rattle.sql_stmt.specs.Statements.{row, rows, column_part, key_part, table_part, table_parts}
+use Rattle.sql_stmt.specs.ChangeForms.{row, rows}
+use Rattle.sql_stmt.specs.TableForms.{column_part, key_part, table_part, table_parts}
 use Rattle.sql_stmt.proofs.ListLemmas.{limited_done}
 
 -- how many pass a test

@@ -29,10 +29,17 @@ use Rattle.sql_form.specs.Grammar.{IsForm, AreMany}
 use Rattle.sql_form.specs.Rules.{strict}
 use Rattle.sql_form.proofs.Complete.{complete}
 use Rattle.sql_form.proofs.PlainLemmas.{plain_is}
-use Rattle.sql_stmt.specs.Saying.{SaysExpr, SayEach, SaysOption, SaysFilter, SaysRow, SaysInsert, SaysSum, SaysSums, SaysShown, SaysSelectSums, SaysSelectRows, SaysSetting, SaysUpdate, SaysDelete}
-use Rattle.sql_stmt.specs.Stmts.{SaysUse, SaysCreateTable, SaysCreateSnap, SaysCreate, SaysDropTable, SaysDropDatabase, SaysDrop, SaysStructure, SaysInsertion, SaysUpdating, SaysDeletion, SaysChange, SaysBegin, SaysCommit, SaysRollback, SaysTimeout, SaysRestore, SaysTurn, SaysSelection, SaysStatement, SaysEnded}
+use Rattle.sql_stmt.specs.Saying.{SaysExpr, SayEach, SaysOption, SaysFilter, SaysRow, SaysInsert, SaysSetting, SaysUpdate, SaysDelete}
+use Rattle.sql_stmt.specs.Selecting.{SaysSum, SaysSums, SaysShown, SaysSelectSums, SaysSelectRows}
+use Rattle.sql_stmt.specs.Stmts.{SaysUse, SaysCreateTable, SaysCreateSnap, SaysCreate, SaysDropTable, SaysDropDatabase, SaysDrop, SaysStructure, SaysInsertion, SaysUpdating, SaysDeletion, SaysChange, SaysBegin, SaysCommit, SaysRollback, SaysTimeout, SaysIsolation, SaysSet, SaysRestore, SaysTurn, SaysSelection, SaysStatement, SaysEnded}
 use Rattle.sql_lex.specs.declared.keyword.Keyword.TheVariants as word
-use Rattle.sql_stmt.specs.Statements.{key, column_list, use_database, create_snap, drop_table, drop_database, begin_transaction, commit, rollback, set_timeout, restore, where_truth, row, rows, insert, aggregate, shown, select_sums, select_rows, select, setting, update, delete, table_part, table_parts, create_table, create, drop, structure, change, turn, statement, ended, batch}
+use Rattle.sql_stmt.specs.ChangeForms.{row, rows, insert, setting, update, delete}
+use Rattle.sql_stmt.specs.DatabaseForms.{create_snap, drop_database, restore}
+use Rattle.sql_stmt.specs.Pieces.{key, column_list, where_truth}
+use Rattle.sql_stmt.specs.SelectForms.{aggregate, shown, select_sums, select_rows, select}
+use Rattle.sql_stmt.specs.SessionForms.{use_database, begin_transaction, commit, rollback, timeout, isolation, set_session}
+use Rattle.sql_stmt.specs.Statements.{create, drop, structure, change, turn, statement, ended, batch}
+use Rattle.sql_stmt.specs.TableForms.{drop_table, table_part, table_parts, create_table}
 use Rattle.sql_stmt.proofs.CountLemmas.{few_rows, few_columns, written_columns, how_many, is_column_value}
 use Rattle.sql_stmt.proofs.SoundLemmas.{is_good, are_good, and_left, and_right, printed_parts, good_form}
 
@@ -156,9 +163,17 @@ rollback_sound : (s : Stmt) (v : Value rollback) → SaysRollback s v → is_sou
 rollback_sound stmt.Rollback v h = refl
 rollback_sound _ v h = absurd h
 
-timeout_sound : (s : Stmt) (v : Value set_timeout) → SaysTimeout s v → is_sound s ≡ true
+timeout_sound : (s : Stmt) (v : Value timeout) → SaysTimeout s v → is_sound s ≡ true
 timeout_sound stmt.LockTimeoutZero v h = refl
 timeout_sound _ v h = absurd h
+
+isolation_sound : (s : Stmt) (v : Value isolation) → SaysIsolation s v → is_sound s ≡ true
+isolation_sound (stmt.SetLevel to) v h = refl
+isolation_sound _ v h = absurd h
+
+session_sound : (s : Stmt) (v : Value set_session) → SaysSet s v → is_sound s ≡ true
+session_sound s (first_word, Left v) h = timeout_sound s v h
+session_sound s (first_word, Right v) h = isolation_sound s v h
 
 restore_sound : (s : Stmt) (v : Value restore) → SaysRestore s v → is_sound s ≡ true
 restore_sound (stmt.Restore db snap) v h = refl
@@ -203,7 +218,7 @@ turn_sound : (s : Stmt) (v : Value turn) → SaysTurn s v → is_sound s ≡ tru
 turn_sound s (Left v) h = begin_sound s v h
 turn_sound s (Right (Left v)) h = commit_sound s v h
 turn_sound s (Right (Right (Left v))) h = rollback_sound s v h
-turn_sound s (Right (Right (Right (Left v)))) h = timeout_sound s v h
+turn_sound s (Right (Right (Right (Left v)))) h = session_sound s v h
 turn_sound s (Right (Right (Right (Right v)))) h = restore_sound s v h
 
 -- a statement of the grammar is a sound one

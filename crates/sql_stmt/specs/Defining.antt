@@ -9,7 +9,7 @@ use Rattle.table_def.specs.declared.parts.WrittenType.{WrittenType}
 use Rattle.table_def.specs.declared.parts.WrittenType.TheVariants.{Int, Bigint, Varchar}
 use Rattle.sql_form.specs.Form.{Form, Value, Either, Left, Right}
 use Rattle.sql_stmt.specs.Saying.{SaysName, SaysNumber, SaysInside, SaysColumns, SayEach, SaysEither}
-use Rattle.sql_stmt.specs.Statements.{varchar, column_type, not_null, primary_key, column_option, column_part, constraint, key_part, table_part}
+use Rattle.sql_stmt.specs.TableForms.{varchar, column_type, not_null, primary_key, column_option, column_part, constraint, key_part, table_part}
 
 -- VARCHAR ( number )
 abbrev pub SaysVarchar : WrittenType → Value varchar → Type 0

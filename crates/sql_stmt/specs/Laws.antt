@@ -19,8 +19,8 @@ pub record IsBatch (bytes : List ℕ) (value : Value batch) : Type 0 where
 abbrev pub SaysOneThing : List ℕ → Type 0
 SaysOneThing bytes = (x y : Value batch) → IsBatch bytes x → IsBatch bytes y → x ≡ y
 
--- The tokens of a batch are read exactly where it is in the grammar; where they are refused, no batch begins with those up to the
--- wrong one, or none that keeps the broken rule.
+-- The tokens of a batch are read exactly where it is in the grammar; where they are refused, a batch begins with those before the
+-- wrong one, limits and kinds left aside, and none that keeps the broken rule with those up to it.
 pub record IsTold (bytes : List ℕ) (ts : List Token) : Type 0 where
   pub read : (rest : List Token) (x : Value batch) → read_whole batch ts ≡ Done x rest → IsBatch bytes x
   pub whole : (x : Value batch) → IsBatch bytes x → (rest : List Token) × (read_whole batch ts ≡ Done x rest)

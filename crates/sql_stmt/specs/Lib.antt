@@ -1,6 +1,13 @@
+pub mod Pieces
+pub mod TableForms
+pub mod DatabaseForms
+pub mod ChangeForms
+pub mod SelectForms
+pub mod SessionForms
 pub mod Statements
 pub mod Laws
 pub mod Answers
 pub mod Saying
+pub mod Selecting
 pub mod Defining
 pub mod Stmts

@@ -1,10 +1,18 @@
 -- The statement that each sentence says.
 use Rattle.std.specs.Prelude.{◌≡◌, ℕ, List}
+use Rattle.plain_model.specs.declared.stmt.Level.{Level}
+use Rattle.plain_model.specs.declared.stmt.Level.TheVariants.{Committed, Serial}
 use Rattle.plain_model.specs.declared.stmt.Stmt.{Stmt}
-use Rattle.plain_model.specs.declared.stmt.Stmt.TheVariants.{UseDb, CreateTable, DropTable, Insert, Select, Update, Delete, BeginTran, Commit, Rollback, LockTimeoutZero, CreateSnap, DropDb, Restore}
+use Rattle.plain_model.specs.declared.stmt.Stmt.TheVariants.{UseDb, CreateTable, DropTable, Insert, Select, Update, Delete, BeginTran, Commit, Rollback, LockTimeoutZero, SetLevel, CreateSnap, DropDb, Restore}
 use Rattle.sql_form.specs.Form.{Form, Value, Either, Left, Right}
-use Rattle.sql_stmt.specs.Saying.{SaysName, SayEach, SaysEither, SaysFile, SaysSource, SaysSnapshot, SaysInsert, SaysSelect, SaysUpdate, SaysDelete}
-use Rattle.sql_stmt.specs.Statements.{use_database, create_table, create_snap, create, drop_table, drop_database, drop, structure, insert, update, delete, change, begin_transaction, commit, rollback, set_timeout, restore, turn, select, statement, ended}
+use Rattle.sql_stmt.specs.Saying.{SaysName, SayEach, SaysEither, SaysFile, SaysSource, SaysSnapshot, SaysInsert, SaysUpdate, SaysDelete}
+use Rattle.sql_stmt.specs.Selecting.{SaysSelect}
+use Rattle.sql_stmt.specs.ChangeForms.{insert, update, delete}
+use Rattle.sql_stmt.specs.DatabaseForms.{create_snap, drop_database, restore}
+use Rattle.sql_stmt.specs.SelectForms.{select}
+use Rattle.sql_stmt.specs.SessionForms.{use_database, begin_transaction, commit, rollback, timeout, level, isolation, set_session}
+use Rattle.sql_stmt.specs.Statements.{create, drop, structure, change, turn, statement, ended}
+use Rattle.sql_stmt.specs.TableForms.{create_table, drop_table}
 use Rattle.sql_stmt.specs.Defining.{SaysPart}
 use Rattle.table_def.specs.declared.parts.TablePart.{TablePart}
 use Rattle.table_def.specs.Defined.{columns_of}
@@ -39,10 +47,24 @@ abbrev pub SaysRollback : Stmt → Value rollback → Type 0
 SaysRollback Rollback v = Unit {0}
 SaysRollback _ v = ⊥
 
--- SET LOCK_TIMEOUT 0
-abbrev pub SaysTimeout : Stmt → Value set_timeout → Type 0
+-- LOCK_TIMEOUT 0
+abbrev pub SaysTimeout : Stmt → Value timeout → Type 0
 SaysTimeout LockTimeoutZero v = Unit {0}
 SaysTimeout _ v = ⊥
+
+-- READ COMMITTED | SERIALIZABLE
+abbrev pub SaysLevel : Level → Value level → Type 0
+SaysLevel to (Left read_committed) = to ≡ Committed
+SaysLevel to (Right serializable) = to ≡ Serial
+
+-- TRANSACTION ISOLATION LEVEL ..
+abbrev pub SaysIsolation : Stmt → Value isolation → Type 0
+SaysIsolation (SetLevel to) (transaction, (isolation, (level, v))) = SaysLevel to v
+SaysIsolation _ v = ⊥
+
+-- SET LOCK_TIMEOUT 0 | SET TRANSACTION ISOLATION LEVEL ..
+abbrev pub SaysSet : Stmt → Value set_session → Type 0
+SaysSet stmt (word, v) = SaysEither SaysTimeout SaysIsolation stmt v
 
 -- RESTORE DATABASE name FROM DATABASE_SNAPSHOT = text
 abbrev pub SaysRestore : Stmt → Value restore → Type 0
@@ -92,7 +114,7 @@ SaysChange stmt v = SaysEither SaysInsertion (SaysEither SaysUpdating SaysDeleti
 
 -- BEGIN .. | COMMIT .. | ROLLBACK .. | SET .. | RESTORE ..
 abbrev pub SaysTurn : Stmt → Value turn → Type 0
-SaysTurn stmt v = SaysEither SaysBegin (SaysEither SaysCommit (SaysEither SaysRollback (SaysEither SaysTimeout SaysRestore))) stmt v
+SaysTurn stmt v = SaysEither SaysBegin (SaysEither SaysCommit (SaysEither SaysRollback (SaysEither SaysSet SaysRestore))) stmt v
 
 -- SELECT ..
 abbrev pub SaysSelection : Stmt → Value select → Type 0

@@ -10,7 +10,8 @@ ghost use Rattle.sql_form.specs.Rules.{strict};
 ghost use Rattle.sql_stmt.specs.Answers.{Gives};
 ghost use Rattle.sql_stmt.specs.Saying.{SaysNothing, SayEach};
 ghost use Rattle.sql_stmt.specs.Stmts.{SaysEnded};
-ghost use Rattle.sql_stmt.specs.Statements.{sign, ended, batch};
+ghost use Rattle.sql_stmt.specs.Pieces.{sign};
+ghost use Rattle.sql_stmt.specs.Statements.{ended, batch};
 
 use crate::production::{Production, many};
 use crate::stmt::{is_statement_ahead, statement};

@@ -9,7 +9,7 @@ ghost use Rattle.sql_form.specs.Rules.{strict};
 ghost use Rattle.sql_stmt.specs.Answers.{Gives};
 ghost use Rattle.sql_stmt.specs.Saying.{SaysFile, SaysLogical, SaysPath, SaysSource, SaysSnapshot};
 ghost use Rattle.sql_stmt.specs.Stmts.{SaysCreateSnap, SaysDropDatabase, SaysRestore};
-ghost use Rattle.sql_stmt.specs.Statements.{snap_file, path_part, logical_part, snapshot_of, create_snap, drop_database, snapshot_text, restore};
+ghost use Rattle.sql_stmt.specs.DatabaseForms.{snap_file, path_part, logical_part, snapshot_of, create_snap, drop_database, snapshot_text, restore};
 
 use crate::pieces::MOST_PARTS;
 use crate::production::{Production, list};

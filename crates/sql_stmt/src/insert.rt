@@ -8,7 +8,8 @@ ghost use Rattle.sql_form.specs.Read.{read};
 ghost use Rattle.sql_form.specs.Rules.{strict};
 ghost use Rattle.sql_stmt.specs.Answers.{Gives};
 ghost use Rattle.sql_stmt.specs.Saying.{SaysRow, SaysList, SaysColumns, SaysInsert};
-ghost use Rattle.sql_stmt.specs.Statements.{row, column_list, insert};
+ghost use Rattle.sql_stmt.specs.ChangeForms.{row, insert};
+ghost use Rattle.sql_stmt.specs.Pieces.{column_list};
 
 use crate::pieces::{ColumnList, Entry, MOST_PARTS, optional_key};
 use crate::production::{Production, list, optional};

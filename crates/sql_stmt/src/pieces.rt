@@ -7,8 +7,10 @@ ghost use Rattle.sql_form.specs.Grammar.{first, starts};
 ghost use Rattle.sql_form.specs.Read.{read};
 ghost use Rattle.sql_form.specs.Rules.{strict};
 ghost use Rattle.sql_stmt.specs.Answers.{Gives};
-ghost use Rattle.sql_stmt.specs.Saying.{SaysNothing, SaysName, SaysExpr, SaysFilter, SaysColumns, SaysFrom, SaysOption};
-ghost use Rattle.sql_stmt.specs.Statements.{name, value, entry, truth, where_truth, column_list, from_table};
+ghost use Rattle.sql_stmt.specs.Saying.{SaysNothing, SaysName, SaysExpr, SaysFilter, SaysColumns, SaysOption};
+ghost use Rattle.sql_stmt.specs.Selecting.{SaysFrom};
+ghost use Rattle.sql_stmt.specs.Pieces.{name, value, entry, truth, where_truth, column_list};
+ghost use Rattle.sql_stmt.specs.SelectForms.{from_table};
 
 use crate::production::{Production, list, optional};
 use crate::take::{is_key, is_mark, key, mark, name, name_ahead, table};

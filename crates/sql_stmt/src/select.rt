@@ -7,8 +7,9 @@ ghost use Rattle.sql_form.specs.Grammar.{first};
 ghost use Rattle.sql_form.specs.Read.{read};
 ghost use Rattle.sql_form.specs.Rules.{strict};
 ghost use Rattle.sql_stmt.specs.Answers.{Gives};
-ghost use Rattle.sql_stmt.specs.Saying.{SaysCountAll, SaysSumOf, SaysSum, SaysShown, SaysDown, SaysOrderItem, SaysOrder, SaysList, SaysSelectSums, SaysSelectRows, SaysSelect};
-ghost use Rattle.sql_stmt.specs.Statements.{count_all, sum_of, aggregate, shown, direction, order_item, order_by, select_sums, select_rows, select};
+ghost use Rattle.sql_stmt.specs.Saying.{SaysList};
+ghost use Rattle.sql_stmt.specs.Selecting.{SaysCountAll, SaysSumOf, SaysSum, SaysShown, SaysDown, SaysOrderItem, SaysOrder, SaysSelectSums, SaysSelectRows, SaysSelect};
+ghost use Rattle.sql_stmt.specs.SelectForms.{count_all, sum_of, aggregate, shown, direction, order_item, order_by, select_sums, select_rows, select};
 
 use crate::pieces::{AnyValue, MOST_PARTS, from_table};
 use crate::production::{Production, list, optional};

@@ -13,7 +13,7 @@ ghost use Rattle.sql_stmt.specs.Statements.{create, drop, structure, change, tur
 use crate::database::{create_snap, drop_database, restore};
 use crate::insert::insert;
 use crate::select::select;
-use crate::session::{begin_transaction, commit, rollback, set_timeout, use_database};
+use crate::session::{begin_transaction, commit, rollback, set_session, use_database};
 use crate::table::{create_table, drop_table};
 use crate::take::{is_key, key};
 use crate::update::{delete, update};
@@ -96,7 +96,7 @@ fn turn(tokens: &mut Tokens<'_>) -> Result<Stmt, ParseRefusal>
         return Ok(stmt);
     }
     if is_key(tokens, Keyword::Set) {
-        let stmt = set_timeout(tokens)?;
+        let stmt = set_session(tokens)?;
         return Ok(stmt);
     }
     let stmt = restore(tokens)?;

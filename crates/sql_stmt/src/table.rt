@@ -11,7 +11,7 @@ ghost use Rattle.sql_stmt.specs.Answers.{Gives};
 ghost use Rattle.sql_stmt.specs.Saying.{SaysNothing, SayEach};
 ghost use Rattle.sql_stmt.specs.Defining.{SaysVarchar, SaysType, SaysOption, SaysColumnPart, SaysConstraint, SaysKeyPart, SaysPart};
 ghost use Rattle.sql_stmt.specs.Stmts.{SaysCreateTable, SaysDropTable};
-ghost use Rattle.sql_stmt.specs.Statements.{varchar, column_type, primary_key, not_null, column_option, column_part, constraint, key_part, table_part, table_parts, create_table, drop_table};
+ghost use Rattle.sql_stmt.specs.TableForms.{varchar, column_type, primary_key, not_null, column_option, column_part, constraint, key_part, table_part, table_parts, create_table, drop_table};
 
 use crate::pieces::{ColumnList, MOST_PARTS, optional_key};
 use crate::production::{Production, list, many, optional};

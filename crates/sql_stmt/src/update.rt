@@ -8,7 +8,7 @@ ghost use Rattle.sql_form.specs.Read.{read};
 ghost use Rattle.sql_form.specs.Rules.{strict};
 ghost use Rattle.sql_stmt.specs.Answers.{Gives};
 ghost use Rattle.sql_stmt.specs.Saying.{SaysSetting, SaysUpdate, SaysDelete};
-ghost use Rattle.sql_stmt.specs.Statements.{setting, update, delete};
+ghost use Rattle.sql_stmt.specs.ChangeForms.{setting, update, delete};
 
 use crate::pieces::{AnyValue, MOST_PARTS, Where, optional_key};
 use crate::production::{Production, list, optional};

@@ -3,14 +3,9 @@
 ghost use Rattle.std.specs.Prelude.{◌↔◌, IsTrue, All, IfOk};
 ghost use Rattle.table_heap.specs.Planning.{MayPut};
 
-use page_base::{Columns, NoMemory, Row, RowList};
+use page_base::{Columns, MAX_KEY_BYTES, MAX_ROW_BYTES, NoMemory, Row, RowList};
 use row_fmt::{encode, fits, key_size};
 use std::alloc::Global;
-
-// The most bytes of a row, and of a key.
-const ROW: usize = 8060;
-
-const KEY: u64 = 900;
 
 // Whether a plan may put this row.
 fn may_put_row(alloc: Global, cols: &Columns, row: &Row) -> Result<bool, NoMemory>
@@ -23,10 +18,10 @@ fn may_put_row(alloc: Global, cols: &Columns, row: &Row) -> Result<bool, NoMemor
         return Ok(false);
     }
     let bytes = encode(alloc, row, cols)?;
-    if ROW < bytes.len() {
+    if MAX_ROW_BYTES < bytes.len() {
         return Ok(false);
     }
-    Ok(key_size(row, cols) <= KEY)
+    Ok(key_size(row, cols) <= MAX_KEY_BYTES as u64)
 }
 
 /// Whether a plan may put these rows: each is one of these columns, of which there are some, within the limits.

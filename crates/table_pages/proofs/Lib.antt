@@ -21,4 +21,3 @@ mod DraftLemmas
 mod PassLemmas
 mod ChangeLemmas
 mod SizeLemmas
-mod TrialLemmas

@@ -12,4 +12,3 @@ pub mod Turns
 pub mod Drafting
 pub mod Passes
 pub mod Plans
-pub mod Trial

@@ -6,6 +6,7 @@ use Rattle.page_fmt.specs.Edits.{edited, slot_at}
 use Rattle.page_fmt.specs.Spelling.{used}
 use Rattle.table_walk.specs.declared.plan.Edit.{Edit}
 use Rattle.table_walk.specs.declared.plan.Spot.{Spot}
+use Rattle.page_base.specs.declared.limits.TheConstants.{MAX_SLOTS, MAX_SLOT_BYTES}
 
 -- each edit is of this page, and names no claimed page
 abbrev pub ArePlain : Spot → List Edit → Type 0
@@ -14,8 +15,8 @@ ArePlain spot (e ∷ es) = ((e.spot ≡ spot) × (e.names ≡ None)) × ArePlain
 
 -- an edit fits on a page of these slots, and changes its slot
 pub record SlotFits (slots : List (List ℕ)) (e : Edit) : Type 0 where
-  pub index : e.slot < 4048
-  pub short : length e.bytes ≤ 8094
+  pub index : e.slot < MAX_SLOTS
+  pub short : length e.bytes ≤ MAX_SLOT_BYTES
   pub room : used (edited slots e.slot e.bytes) ≤ 8192
   pub changes : slot_at slots e.slot ≢ e.bytes
 

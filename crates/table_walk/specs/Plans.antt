@@ -1,6 +1,7 @@
 -- A plan: edits of slots, done in turn, of pages that the table owns and of pages that it claims.
 use Rattle.std.specs.Prelude.{Bool, false, true, Option, None, Some, ◌≡◌, ◌≢◌, ◌||◌, ℕ, zero, suc, ◌<◌, ◌≤◌, List, [], ◌∷◌, ◌++◌, length}
 use Rattle.std.specs.FinMap as finite
+use Rattle.page_base.specs.declared.limits.TheConstants.{MAX_SLOTS, MAX_SLOT_BYTES}
 use Rattle.page_base.specs.declared.column.Column.{Column}
 use Rattle.page_base.specs.declared.numbers.PageId.{PageId}
 use Rattle.page_base.specs.declared.value.Value.{Value}
@@ -45,8 +46,8 @@ after claimed at (e ∷ es) = after claimed (changed claimed at e) es
 
 -- an edit fits on its page, and changes its slot
 pub record Fits (claimed : ℕ → PageId) (at : SlotsAt) (e : Edit) : Type 0 where
-  pub index : e.slot < 4048
-  pub short : length (bytes_of claimed e) ≤ 8094
+  pub index : e.slot < MAX_SLOTS
+  pub short : length (bytes_of claimed e) ≤ MAX_SLOT_BYTES
   pub room : used (slots_after claimed at e) ≤ 8192
   pub changes : slot_at (at (place claimed e.spot)) e.slot ≢ bytes_of claimed e
 

@@ -3,6 +3,7 @@ use Rattle.std.specs.Prelude.{Bool, true, false, Option, None, Some, if◌then�
 use Rattle.std.specs.List.{Any}
 use Rattle.std.specs.FinMap as finite
 use Rattle.page_base.specs.declared.column.Column.{Column}
+use Rattle.page_base.specs.declared.limits.TheConstants.{MAX_ROW_BYTES, MAX_KEY_BYTES}
 use Rattle.page_base.specs.declared.numbers.PageId.{PageId}
 use Rattle.page_base.specs.declared.value.Value.{Value}
 use Rattle.page_fmt.specs.Seen.{SlotsAt, Looked, look}
@@ -39,8 +40,8 @@ cells at (v ∷ vs) = cells_of at v ++ cells at vs
 
 -- a row within the limits: 8,060 bytes, and 900 bytes of key
 pub record IsSmall (cols : List Column) (row : List Value) : Type 0 where
-  pub bytes : length (row_bytes row) ≤ 8060
-  pub key : length (key_bytes cols row) ≤ 900
+  pub bytes : length (row_bytes row) ≤ MAX_ROW_BYTES
+  pub key : length (key_bytes cols row) ≤ MAX_KEY_BYTES
 
 -- the rows that these cells spell, by their keys: each cell is a row within the limits, and no two have one key
 abbrev pub Gathers : List Column → List (List ℕ) → Rows → Type 0

@@ -5,7 +5,7 @@ use Rattle.snapdb.specs.Runs.{Runs}
 use Rattle.early_engine.specs.declared.closing.CloseEnd.{CloseEnd}
 use Rattle.early_engine.specs.Disks.{disk_of}
 use Rattle.snapdb.proofs.Refusals.{writes_line, writes_front}
-use Rattle.snapdb.proofs.Closings.{tells_done, tells_close, may_be_told}
+use Rattle.snapdb.proofs.Closings.{tells_done, tells_close}
 use Rattle.snapdb.proofs.top.still.Goals as goal
 
 pub returns-then-not-is_play-clause-refused : goal.returns-then-not-is_play-clause-refused
@@ -29,7 +29,7 @@ returns-in-Ok-clause-closed g c = λ seven.
 pub returns-in-Ok-clause-front : goal.returns-in-Ok-clause-front
 returns-in-Ok-clause-front g c = inr (
   told_text c.in-Ok.field-0.book c.in-Ok.field-0.end,
-  inr (c.if-not-is_play.ensures.0 refl, c.in-Ok.ensures.tells, may_be_told c.in-Ok.field-0.book 0 (g.K.Sink.taken c.args.out.now) (g.K.Sink.taken c.args.out.now) _ _ c.in-Ok.field-0.end c.in-Ok.ensures.fault),
+  inr (c.if-not-is_play.ensures.0 refl, c.in-Ok.ensures.tells, record { end = c.in-Ok.field-0.end; run = c.in-Ok.ensures.runs; failed = c.in-Ok.ensures.fault; is = refl }),
   c.told_status.ensures.front,
 )
 

@@ -1,6 +1,6 @@
-use Rattle.std.proofs.Common.{◌≡◌, ◌∙◌, sym, ap, refl}
+use Rattle.std.proofs.Common.{◌∙◌, sym}
 use Rattle.sql_lex.specs.declared.token.Mark.TheVariants as mark
-use Rattle.sql_stmt.specs.Statements.{sign}
+use Rattle.sql_stmt.specs.Pieces.{sign}
 use Rattle.sql_stmt.proofs.ListLemmas.{run_start, run_on, run_end}
 use Rattle.sql_stmt.proofs.batch.semicolons.Goals as goal
 

@@ -3,7 +3,7 @@ use Rattle.sql_form.specs.Form.{Many}
 use Rattle.sql_form.specs.Read.{read}
 use Rattle.sql_form.specs.Rules.{strict}
 use Rattle.sql_lex.specs.declared.token.Mark.TheVariants as mark
-use Rattle.sql_stmt.specs.Statements.{sign}
+use Rattle.sql_stmt.specs.Pieces.{sign}
 use Rattle.sql_stmt.proofs.ListLemmas.{Run}
 use Rattle.sql_stmt.proofs.batch.semicolons.Given as goal
 

@@ -1,7 +1,7 @@
-use Rattle.std.proofs.Common.{◌≡◌, ◌∙◌, true, false, sym, ap, rules}
+use Rattle.std.proofs.Common.{◌∙◌, sym, ap}
 use Rattle.sql_form.proofs.PlainLemmas.{plain_is}
 use Rattle.sql_lex.specs.Ahead.{behind_first}
-use Rattle.sql_stmt.proofs.ListLemmas.{listed_start, listed_on, listed_end, listed_refused, listed_less}
+use Rattle.sql_stmt.proofs.ListLemmas.{listed_start, listed_on, listed_end, listed_less}
 use Rattle.sql_stmt.proofs.production.list.Goals as goal
 
 pub parts-init : goal.parts-init

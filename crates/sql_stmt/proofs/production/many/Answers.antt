@@ -1,6 +1,6 @@
-use Rattle.std.proofs.Common.{◌≡◌, ◌∙◌, true, false, sym}
+use Rattle.std.proofs.Common.{◌∙◌, sym}
 use Rattle.std.proofs.lemmas.Result.{err_from_is_err_and}
-use Rattle.sql_stmt.proofs.ListLemmas.{several_start, several_on, several_end, several_refused, several_less}
+use Rattle.sql_stmt.proofs.ListLemmas.{several_on, several_refused, several_less}
 use Rattle.sql_stmt.proofs.production.many.Goals as goal
 
 pub returns-in_err-item : goal.returns-in_err-item

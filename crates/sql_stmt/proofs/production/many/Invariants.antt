@@ -1,4 +1,4 @@
-use Rattle.std.proofs.Common.{List, length}
+use Rattle.std.proofs.Common.{length}
 use Rattle.sql_form.specs.Form.{Many}
 use Rattle.sql_form.specs.Read.{read}
 use Rattle.sql_form.specs.Rules.{strict}
