@@ -354,7 +354,7 @@ fn logs_answer_by_the_plan_of_their_name(rt: HostRuntime) -> Result<(), Fail> {
 }
 
 // Makes a log that lies at a name.
-#[tactic(auto, using(page_dev::proofs::OutLemmas::taken_out, page_dev::proofs::OutLemmas::put_back, crate::proofs::CallerLemmas::lies_where_put))]
+#[tactic(auto, using(page_dev::proofs::OutLemmas::taken_out, page_dev::proofs::OutLemmas::put_back, crate::proofs::CallerLemmas::none_is_out, crate::proofs::CallerLemmas::lies_where_put))]
 fn lay(volume: &mut MemVolume, name: &FileName) -> Result<(), Fail>
     requires { out_of volume.old.folder ≡ set.empty }
     ensures out { OnOk result (out_of volume.new.folder ≡ set.empty) }
