@@ -16,6 +16,6 @@ fn sessions_and_picks_are_read(rt: HostRuntime) -> Result<(), Fail> {
     assert_eq!(rt; work.scripts.len(), 2);
     assert_eq!(rt; work.scripts.at(0).len(), 2);
     assert_eq!(rt; work.picks.len(), 3);
-    assert_eq!(rt; work.picks.last(), Some(&LAST_PICK));
+    assert_eq!(rt; work.picks.as_slice().last(), Some(&LAST_PICK));
     Ok(())
 }
