@@ -1,9 +1,9 @@
 -- Statements on the source's tables are answered by what their session sees, and at SERIALIZABLE as if alone.
-use Rattle.std.proofs.Common.{◌≡◌, ◌≢◌, ◌+◌, ◌-◌, ◌<◌, ◌≤◌, ◌⊎◌, inl, inr, ℕ, Bool, true, false, List, [], ◌∷◌, ◌++◌, get_or, refl, ap, sym, ◌∙◌, subst, arith}
-use Rattle.std.specs.Prelude.{Option, Some, None}
+use Rattle.std.proofs.Common.{◌≡◌, ◌-◌, ◌≤◌, ◌⊎◌, inl, inr, ℕ, true, false, List, ◌∷◌, ◌++◌, refl, ap, sym, ◌∙◌, subst, arith}
+use Rattle.std.specs.Prelude.{Option, Some}
 use Rattle.std.specs.FinMap as finite
 use Rattle.std.specs.List.{list_any}
-use Rattle.page_base.specs.declared.numbers.Mode.TheVariants.{S, X}
+use Rattle.page_base.specs.declared.numbers.Mode.TheVariants.{S}
 use Rattle.plain_model.specs.declared.stmt.Level.{Level}
 use Rattle.plain_model.specs.declared.stmt.Level.TheVariants as levels
 use Rattle.plain_model.specs.declared.stmt.Stmt.{Stmt}
@@ -12,24 +12,22 @@ use Rattle.plain_model.specs.declared.event.Event.TheVariants.{Said}
 use Rattle.plain_model.specs.declared.event.LockName.{LockName}
 use Rattle.plain_model.specs.declared.event.LockName.TheVariants.{All, Table}
 use Rattle.plain_model.specs.declared.reply.Message.{Message}
-use Rattle.plain_model.specs.declared.reply.Reply.{Reply}
 use Rattle.plain_model.specs.declared.reply.Reply.TheVariants.{Msg}
 use Rattle.plain_model.specs.Tables.{Tables, Change, apply}
 use Rattle.plain_model.specs.Journal.{Opening}
 use Rattle.plain_model.specs.Meaning.{shape, change_and_reply}
 use Rattle.plain_model.specs.Statements.{table_named}
-use Rattle.plain_model.specs.State.{Plain, Session, session, stmt_of, start, committed, see}
+use Rattle.plain_model.specs.State.{Session, session, stmt_of, start, committed, see}
 use Rattle.plain_model.specs.Holding.{holds, same_lock}
 use Rattle.plain_model.specs.Keeping.{kept_at}
 use Rattle.plain_model.specs.Next.{Replies, next_of}
-use Rattle.plain_model.specs.Free.{IsFree, is_of_tables}
-use Rattle.plain_model.specs.Legal.{Legal, LegalFrom, MayCome, after, end, end_from}
+use Rattle.plain_model.specs.Free.{IsFree}
+use Rattle.plain_model.specs.Legal.{Legal, LegalFrom, MayCome, end_from}
 use Rattle.plain_model.specs.Alone.{Told, IsOfSource, IsCommitted, IsAloneOutside, IsAloneInside, IsSeen, AreAlone, AreSeen, asked, replied, answer, or_reply}
 use Rattle.plain_steps.proofs.SplitLemmas.{legal_before, legal_behind}
 use Rattle.plain_steps.proofs.LockLemmas.{Locks}
 use Rattle.plain_steps.proofs.ApplyLemmas.{cols_at, get_apply, cols_apply, answer_reads, shape_reads}
 use Rattle.plain_steps.proofs.ComingLemmas.{Backed, ByShape, ByData, Over, Reads, backed, answered_by, of_built, quiet_reply, free_loud}
-use Rattle.plain_steps.proofs.StepLemmas.{at, Leveled}
 use Rattle.plain_steps.proofs.EventLemmas.{ReplyStep, said_step}
 use Rattle.plain_steps.proofs.SaneLemmas.{Sane, sane_end, sane_after}
 use Rattle.plain_steps.proofs.SteadyLemmas.{Tracked, Remains, Steady, Amid, steady, amid, stays_first}
@@ -57,9 +55,11 @@ module _ (opening : Opening) (scripts : List (List Stmt)) (book : List Event) (k
         | inr f ↦ absurd (free_loud (asked t) k (Some t.stmt) t.reply f q)
       ]
 
+  -- the reply is what the statement answers over what its session sees
   pub seen : IsSeen t
   seen = answered_by (Over (asked t) k t.stmt) (asked t) k t.stmt t.reply over
 
+  -- outside a transaction that is what is committed
   pub outside : IsAloneOutside t
   outside zero = seen ∙ ap (λ (w : List Change). answer t.stmt (apply w (committed (asked t)))) (sane.idle (k - 1) zero)
 
@@ -132,6 +132,7 @@ module _ (opening : Opening) (scripts : List (List Stmt)) (book : List Event) (k
       | ByData (inr r) none e ↦ by_data r
     ]
 
+  -- at SERIALIZABLE, in a transaction that commits, it would be the same just before the commit
   pub inside : IsAloneInside t
   inside serial c = inside_is serial c
 

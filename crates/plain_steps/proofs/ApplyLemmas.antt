@@ -1,10 +1,9 @@
 -- What changes of tables leave of one table: what they don't name stays, and columns stay where no table is added or removed.
-use Rattle.std.proofs.Common.{◌≡◌, ◌≢◌, ℕ, Bool, true, false, cond, List, [], ◌∷◌, ◌++◌, map, refl, ap, sym, ◌∙◌, subst, inl, inr}
+use Rattle.std.proofs.Common.{◌≡◌, ℕ, true, false, cond, List, [], ◌∷◌, map, refl, ap, sym, ◌∙◌, subst, inl, inr}
 use Rattle.std.specs.Prelude.{Option, Some, None, option_map, unwrap_or}
 use Rattle.std.specs.FinMap as finite
 use Rattle.std.specs.FinMap.{get-insert, get-remove}
-use Rattle.std.specs.Cmp.Lexicographic.{slice_cmp, nat_list_cmp_total}
-use Rattle.std.specs.Ordering.{nat_cmp, eq_by_cmp, is_eq}
+use Rattle.std.specs.Cmp.Lexicographic.{nat_list_cmp_total}
 use Rattle.std.specs.Str.{bytes_eq}
 use Rattle.std.specs.List.{AllByRecursion}
 use Rattle.std.specs.declared.result.Result.{Result}
@@ -16,19 +15,16 @@ use Rattle.page_base.specs.declared.value.Value.{Value}
 use Rattle.plain_model.specs.declared.stmt.Stmt.{Stmt}
 use Rattle.plain_model.specs.declared.stmt.Stmt.TheVariants.{CreateTable, DropTable, Insert, Select, Update, Delete}
 use Rattle.plain_model.specs.declared.reply.Message.{Message}
-use Rattle.plain_model.specs.declared.reply.Reply.{Reply}
-use Rattle.plain_model.specs.declared.reply.Reply.TheVariants.{Count, Msg}
-use Rattle.plain_model.specs.declared.reply.TheConstants.Message.{NO_TABLE, TABLE_IS_THERE}
 use Rattle.plain_model.specs.Messages.{plain}
 use Rattle.plain_model.specs.Shapes.{select_fault, insert_fault, update_fault, delete_fault}
 use Rattle.plain_model.specs.Outcomes.{taken_from}
 use Rattle.plain_model.specs.Inserting.{target_names, new_row, inserted_from}
 use Rattle.plain_model.specs.Changing.{updated_row, deleted_row}
 use Rattle.plain_model.specs.Tables.{Table, Tables, Change, Put, Cut, Add, Remove, with_row, without_key, changed, applied, apply, rows_of}
-use Rattle.plain_model.specs.Meaning.{shape, change_and_reply, table_in}
+use Rattle.plain_model.specs.Meaning.{shape}
 use Rattle.plain_model.specs.Statements.{shape_over, data_over, table_named, is_of_rows, needs, is_new, changes_of}
 use Rattle.plain_model.specs.Alone.{answer, or_reply}
-use Rattle.plain_steps.proofs.LockLemmas.{same_bytes, bytes_same, other_bytes}
+use Rattle.plain_steps.proofs.LockLemmas.{same_bytes, bytes_same}
 
 -- A TABLE AMONG TABLES
 
@@ -71,12 +67,14 @@ of_change (Cut table key) o = option_map (without_key key) o
 of_change (Add table cols) o = Some (record { cols = cols; rows = finite.empty })
 of_change (Remove table) o = None
 
+-- a change over its own table
 pub applied_here : (c : Change) (tables : Tables) → finite.get (applied c tables) (named_by c) ≡ of_change c (finite.get tables (named_by c))
 applied_here (Put table row) tables = changed_here tables table (with_row row)
 applied_here (Cut table key) tables = changed_here tables table (without_key key)
 applied_here (Add table cols) tables = inserted tables table (record { cols = cols; rows = finite.empty }) table ∙ ap (λ b. cond b (Some (record { cols = cols; rows = finite.empty })) (finite.get tables table)) (bytes_same table)
 applied_here (Remove table) tables = removed tables table table ∙ ap (λ b. cond b None (finite.get tables table)) (bytes_same table)
 
+-- and over the others
 pub applied_there : (c : Change) (tables : Tables) (q : List ℕ) → bytes_eq q (named_by c) ≡ false → finite.get (applied c tables) q ≡ finite.get tables q
 applied_there (Put table row) tables q ne = changed_there tables table q (with_row row) ne
 applied_there (Cut table key) tables q ne = changed_there tables table q (without_key key) ne

@@ -1,27 +1,25 @@
 -- What comes next of a statement, read backwards: which checks it has passed, and which locks are held.
-use Rattle.std.proofs.Common.{◌≡◌, ◌≢◌, ◌+◌, ◌-◌, ◌<◌, ◌≤◌, ◌⊎◌, inl, inr, ℕ, suc, zero, Bool, true, false, ◌&&◌, ◌||◌, not, nat_eq, nat_le, cond, List, [], ◌∷◌, length, get_or, refl, ap, sym, ◌∙◌, subst, arith}
-use Rattle.std.specs.Prelude.{Option, Some, None, ◌==◌, option_map}
-use Rattle.std.proofs.lemmas.Bool.{cases_Bool, leb-false, not-false, cond-true, cond-false, or_parts}
+use Rattle.std.proofs.Common.{◌≡◌, ◌⊎◌, inl, inr, ℕ, Bool, true, false, not, nat_le, cond, List, [], ◌∷◌, length, refl, ap, sym, ◌∙◌, subst, arith}
+use Rattle.std.specs.Prelude.{Option, Some, None, ◌==◌}
+use Rattle.std.proofs.lemmas.Bool.{leb-false, cond-true}
 use Rattle.page_base.specs.declared.column.Column.{Column}
 use Rattle.page_base.specs.declared.numbers.Mode.{Mode}
 use Rattle.page_base.specs.declared.numbers.Mode.TheVariants.{S, X}
 use Rattle.plain_model.specs.declared.stmt.Stmt.{Stmt}
-use Rattle.plain_model.specs.declared.stmt.Stmt.TheVariants.{UseDb, CreateTable, DropTable, Insert, Select, Update, Delete, BeginTran, Commit, Rollback, LockTimeoutZero, SetLevel, CreateSnap, DropDb, Restore, Broken}
+use Rattle.plain_model.specs.declared.stmt.Stmt.TheVariants.{CreateTable, DropTable, Insert, Select, Update, Delete}
 use Rattle.plain_model.specs.declared.stmt.SelectStmt.{SelectStmt}
-use Rattle.plain_model.specs.declared.stmt.SnapFile.{SnapFile}
 use Rattle.plain_model.specs.declared.event.LockName.{LockName}
 use Rattle.plain_model.specs.declared.event.LockName.TheVariants.{All, Table}
 use Rattle.plain_model.specs.declared.reply.Message.{Message}
 use Rattle.plain_model.specs.declared.reply.Reply.{Reply}
-use Rattle.plain_model.specs.declared.reply.Reply.TheVariants.{Ok, Count, Rows, Msg}
-use Rattle.plain_model.specs.declared.reply.TheConstants.Message.{NO_MEMORY, NO_ROOM, FILE_IS_THERE, FILE_FAILED, FILE_NOT_REMOVED, LOG_FAILED, NO_FRAME, DATA_FAILED, LOCKED, NO_TABLE, NO_DATABASE, SUSPECT, RESTORING, BEING_MADE, TABLE_IN_TRANSACTION, BAD_DEFINITION, NOT_BUILT, DATABASE_IN_USE, IN_USE, OTHER_SNAPSHOT, REVERT_FAILED}
-use Rattle.plain_model.specs.Messages.{plain, at_place, of_name}
+use Rattle.plain_model.specs.declared.reply.Reply.TheVariants.{Msg}
+use Rattle.plain_model.specs.declared.reply.TheConstants.Message.{NO_MEMORY, NO_ROOM, FILE_IS_THERE, FILE_FAILED, FILE_NOT_REMOVED, LOG_FAILED, NO_FRAME, DATA_FAILED, LOCKED, NO_TABLE, SUSPECT, TABLE_IN_TRANSACTION, BAD_DEFINITION, NOT_BUILT}
+use Rattle.plain_model.specs.Messages.{plain, at_place}
 use Rattle.plain_model.specs.Meaning.{shape, change_and_reply}
 use Rattle.plain_model.specs.Statements.{is_of_rows, table_named}
-use Rattle.plain_model.specs.State.{Plain, session, stmt_of, see, copy, is_source, is_snap, is_suspect, is_being_made, is_restoring, restored}
+use Rattle.plain_model.specs.State.{Plain, session, see, copy, is_source, is_snap, is_suspect}
 use Rattle.plain_model.specs.Holding.{holds, held}
-use Rattle.plain_model.specs.Users.{user_of, is_in_either, in_use_by, other_snap}
-use Rattle.plain_model.specs.Next.{Next, Replies, Wants, Cuts, Restores, Silent, unless, unless_shape, waits, under, answers, no_write, is_database, is_built, next_of, next_stmt, next_use, next_define, next_change, next_select, no_snap, no_room, next_snap, no_drop, next_drop, no_restore, next_restore}
+use Rattle.plain_model.specs.Next.{Next, Replies, Wants, Cuts, Restores, unless, unless_shape, waits, under, answers, no_write, is_built, next_of, next_stmt, next_define, next_change, next_select}
 use Rattle.plain_model.specs.Free.{IsFree, NoMemory, NoMemoryToCommit, NoMemoryToCut, NoMemoryToRestore, NoFrame, DataFailed, LogFailed, RevertNotLogged, NoRoom, FileFailed, FileNotRemoved, NameTaken, is_of_tables}
 use Rattle.plain_model.specs.Alone.{tells_of_tables, answer, or_reply}
 use Rattle.plain_steps.proofs.LockLemmas.{holds_shared}
@@ -32,20 +30,25 @@ use Rattle.plain_steps.proofs.LockLemmas.{holds_shared}
 abbrev pub IsQuiet : Next → Type 0
 IsQuiet x = (m : Message) → tells_of_tables (Msg m) ≡ false → x ≡ Replies (Msg m) → ⊥
 
+-- one reply comes, not two
 pub same_reply : (a b : Reply) → Replies a ≡ Replies b → a ≡ b
 same_reply a b e = cc
 
+-- a reply that tells of tables is none of these refusals
 pub quiet_reply : (r : Reply) → tells_of_tables r ≡ true → IsQuiet (Replies r)
 quiet_reply r t m f e =
     let same : r ≡ Msg m = same_reply r (Msg m) e in
     let x : true ≡ false = sym t ∙ ap tells_of_tables same ∙ f in absurd (cc)
 
+-- neither is a lock
 pub quiet_wants : (name : LockName) (mode : Mode) → IsQuiet (Wants name mode)
 quiet_wants name mode m f e = absurd (cc)
 
+-- nor a cut
 pub quiet_cuts : (snap : List ℕ) → IsQuiet (Cuts snap)
 quiet_cuts snap m f e = absurd (cc)
 
+-- nor a revert
 pub quiet_restores : (snap : List ℕ) → IsQuiet (Restores snap)
 quiet_restores snap m f e = absurd (cc)
 
@@ -63,6 +66,7 @@ one_passed : (x n : Next) (b : Bool) (m : Message) → IsQuiet x → tells_of_ta
 one_passed x n true m q f e = absurd (q m f (sym e))
 one_passed x n false m q f e = (refl, e)
 
+-- what is none of these refusals comes behind them, where none of them applies
 pub passed : (x n : Next) (rs : List (Bool × Message)) → IsQuiet x → AreLoud rs → unless rs n ≡ x → NoneApply rs × (n ≡ x)
 passed x n [] q l e = (tt, e)
 passed x n (r ∷ rs) q l e =
@@ -85,6 +89,7 @@ free_loud st k o r (FileFailed snap files of a) q = q (plain FILE_FAILED) refl r
 free_loud st k o r (FileNotRemoved d a) q = q (plain FILE_NOT_REMOVED) refl refl
 free_loud st k o r (NameTaken snap files of a b) q = q (plain FILE_IS_THERE) refl refl
 
+-- it comes of the statement
 pub of_built : (st : Plain) (k : ℕ) (stmt : Stmt) (x : Next) → IsQuiet x → next_of st k (Some stmt) ≡ x → next_stmt st k stmt ≡ x
 of_built st k stmt x q e = (passed x (next_stmt st k stmt) ((not (is_built stmt), plain NOT_BUILT) ∷ []) q (refl, tt) e).1
 
@@ -109,6 +114,7 @@ pub record IsWanted (st : Plain) (k : ℕ) (name : LockName) (mode : Mode) : Typ
   pub lacks : holds (session st k).locks name mode ≡ false
   pub free : held st k name mode ≡ None
 
+-- under a lock that is held the rest comes; else the lock is wanted
 pub under_wants : (st : Plain) (k : ℕ) (a : LockName) (m : Mode) (n : Next) (name : LockName) (mode : Mode) → under st k a m n ≡ Wants name mode → ((holds (session st k).locks a m ≡ true) × (n ≡ Wants name mode)) ⊎ ((name ≡ a) × IsWanted st k name mode)
 under_wants st k a m n name mode e = by (holds (session st k).locks a m) (held st k a m) refl refl e
   where
@@ -118,10 +124,13 @@ under_wants st k a m n name mode e = by (holds (session st k).locks a m) (held s
     by false None hb ho e =
         let na : a ≡ name = cc in
         let me : m ≡ mode = cc in
-        inr (sym na, record {
-          lacks = subst (λ (z : LockName). holds (session st k).locks z mode ≡ false) na (subst (λ (y : Mode). holds (session st k).locks a y ≡ false) me hb);
-          free = subst (λ (z : LockName). held st k z mode ≡ None) na (subst (λ (y : Mode). held st k a y ≡ None) me ho);
-        })
+        inr (
+          sym na,
+          record {
+            lacks = subst (λ (z : LockName). holds (session st k).locks z mode ≡ false) na (subst (λ (y : Mode). holds (session st k).locks a y ≡ false) me hb);
+            free = subst (λ (z : LockName). held st k z mode ≡ None) na (subst (λ (y : Mode). held st k a y ≡ None) me ho);
+          },
+        )
 
 -- A STATEMENT THAT IS ANSWERED OVER ITS TABLE
 
@@ -135,9 +144,11 @@ pub record Writes (st : Plain) (k : ℕ) (stmt : Stmt) : Type 0 where
 abbrev pub IsNoBad : Stmt → Type 0
 IsNoBad stmt = (name : List ℕ) (cols : List Column) → stmt ≡ CreateTable name cols → (length cols == 0) ≡ false
 
+-- so it is of CREATE TABLE that isn't refused
 pub create_good : (name : List ℕ) (cols : List Column) → (length cols == 0) ≡ false → IsNoBad (CreateTable name cols)
 create_good name cols h other others e = let same : cols ≡ others = cc in subst (λ (cs : List Column). (length cs == 0) ≡ false) same h
 
+-- and of DROP TABLE, which makes none
 pub drop_good : (name : List ℕ) → IsNoBad (DropTable name)
 drop_good name other others e = absurd (cc)
 
@@ -157,6 +168,7 @@ pub data Backed (L : Type 0) (st : Plain) (k : ℕ) (stmt : Stmt) (r : Reply) : 
   ByShape : (m : Message) → holds (session st k).locks All S ≡ true → shape stmt (see st k) ≡ Some m → r ≡ Msg m → Backed L st k stmt r
   ByData : L → shape stmt (see st k) ≡ None → r ≡ (change_and_reply stmt (see st k)).1 → Backed L st k stmt r
 
+-- under other locks, where these give those
 pub with_locks : (L M : Type 0) (st : Plain) (k : ℕ) (stmt : Stmt) (r : Reply) → (L → M) → Backed L st k stmt r → Backed M st k stmt r
 with_locks L M st k stmt r f (ByShape m a b c) = ByShape m a b c
 with_locks L M st k stmt r f (ByData l b c) = ByData (f l) b c
@@ -233,6 +245,7 @@ well_changed st k stmt r is of refused q e = elim (change_backed st k stmt r of 
   | ByData l b c ↦ (l, b)
 ]
 
+-- so is a table that is made or dropped
 pub well_defined : (st : Plain) (k : ℕ) (stmt : Stmt) (bad : Bool) (r : Reply) → (bad ≡ false → IsNoBad stmt) → ((m : Message) → r ≡ Msg m → ⊥) → IsQuiet (Replies r) → next_define st k stmt bad ≡ Replies r → Defines st k stmt × (shape stmt (see st k) ≡ None)
 well_defined st k stmt bad r good refused q e = elim (define_backed st k stmt bad r good q e) [
   | ByShape m a b c ↦ absurd (refused m c)

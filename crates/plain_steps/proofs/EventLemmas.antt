@@ -1,11 +1,10 @@
 -- Each event that may come is one step: it changes one session, and the rest as its kind says.
-use Rattle.std.proofs.Common.{◌≡◌, ◌≢◌, ◌+◌, ◌-◌, ◌<◌, ◌≤◌, ◌⊎◌, inl, inr, ℕ, suc, zero, Bool, true, false, ◌&&◌, ◌||◌, not, nat_eq, nat_le, cond, IsTrue, List, [], ◌∷◌, ◌++◌, length, map, get_or, refl, ap, sym, ◌∙◌, subst, arith, length-set}
-use Rattle.std.specs.Prelude.{Option, Some, None, ◌==◌, unwrap_or}
-use Rattle.std.specs.List.{list_any}
+use Rattle.std.proofs.Common.{◌≡◌, ◌≢◌, ◌+◌, ◌-◌, ◌<◌, ◌≤◌, ◌⊎◌, inl, inr, ℕ, Bool, true, false, ◌||◌, nat_le, cond, IsTrue, List, [], ◌∷◌, length, map, get_or, refl, ap, sym, ◌∙◌, subst, arith, length-set}
+use Rattle.std.specs.Prelude.{Option, Some, None, ◌==◌}
 use Rattle.std.specs.Str.{bytes_eq}
 use Rattle.std.proofs.Math.ListN.{set}
 use Rattle.std.proofs.lemmas.Bool.{leb-true, eqb-true, and_parts, or_parts, or_from}
-use Rattle.std.proofs.lemmas.List.{get_or-set_same, get_or-set_other, set-get_or}
+use Rattle.std.proofs.lemmas.List.{get_or-set_same, get_or-set_other}
 use Rattle.std.proofs.lemmas.List.Folds.{list_any-append}
 use Rattle.page_base.specs.declared.numbers.Mode.{Mode}
 use Rattle.page_base.specs.declared.numbers.SessNo.{SessNo}
@@ -15,16 +14,14 @@ use Rattle.plain_model.specs.declared.event.Event.{Event}
 use Rattle.plain_model.specs.declared.event.Event.TheVariants.{Locked, CutAt, RestoreAt, Turned, Said, Left}
 use Rattle.plain_model.specs.declared.event.LockName.{LockName}
 use Rattle.plain_model.specs.declared.reply.Reply.{Reply}
-use Rattle.plain_model.specs.Tables.{Change}
-use Rattle.plain_model.specs.Journal.{Opening, Entry, Cut}
 use Rattle.plain_model.specs.State.{Plain, Session, Snap, fresh_session, session, stmt_of, is_session, is_source, is_snap, master}
 use Rattle.plain_model.specs.Holding.{is_in_the_way}
 use Rattle.plain_model.specs.Keeping.{kept_at, kept_locks, with_gain}
-use Rattle.plain_model.specs.Next.{Next, Replies, Wants, Cuts, Restores, Silent, is_database, next, next_of}
+use Rattle.plain_model.specs.Next.{Replies, Wants, Cuts, Restores, Silent, next, next_of}
 use Rattle.plain_model.specs.Free.{IsFree}
 use Rattle.plain_model.specs.Legal.{MayCome, after, effect, answered, counted, with_first, with_session, without_restoring, turned, new_names}
 use Rattle.plain_steps.proofs.LockLemmas.{free_of}
-use Rattle.plain_steps.proofs.GainLemmas.{Gains, Begins, of_stmt, gains, cuts, begins}
+use Rattle.plain_steps.proofs.GainLemmas.{Gains, Begins, gains, cuts, begins}
 use Rattle.plain_steps.proofs.StepLemmas.{at, named, History, Waits, Ends, CutsOff, Current, Same, Leaves, Leveled, Effected, effected}
 
 -- what a reply leaves of its session's locks
@@ -35,7 +32,7 @@ pub record Replied (st : Plain) (k : ℕ) (s : Session) : Type 0 where
 -- what becomes of the session's locks
 pub data Locking (st : Plain) (k : ℕ) (s : Session) : Type 0 where
   Gained : (name : LockName) (mode : Mode) → Gains st k name mode → (1 ≤ k) × (k ≤ length st.sessions) → (stmt_of st k ≡ None → ⊥) → ((i : ℕ) → i ≢ k - 1 → is_in_the_way (at st i).locks name mode ≡ false) →
-    s.locks ≡ (name, mode) ∷ (session st k).locks → s.gained ≡ with_gain name mode (session st k).gained → Locking st k s
+      s.locks ≡ (name, mode) ∷ (session st k).locks → s.gained ≡ with_gain name mode (session st k).gained → Locking st k s
   Stayed : s.locks ≡ (session st k).locks → s.gained ≡ (session st k).gained → Locking st k s
   Answered : Replied st k s → Locking st k s
 
@@ -70,6 +67,7 @@ who_of (Turned snap) = 0
 who_of (Said who number began reply) = who.0
 who_of (Left who) = who.0
 
+-- the numbers of sessions
 pub numbered : (st : Plain) (k : ℕ) → IsTrue (is_session st k) → (1 ≤ k) × (k ≤ length st.sessions)
 numbered st k there = let h = and_parts (nat_le 1 k) (nat_le k (length st.sessions)) there in (leb-true 1 k h.0, leb-true k (length st.sessions) h.1)
 
@@ -239,6 +237,7 @@ of_said st k None r (inr f) = absurd (no_free f)
     no_free : IsFree st k None r → ⊥
     no_free f = elim f [ ]
 
+-- a reply that may come
 pub said_step : (st : Plain) (k number began : ℕ) (who : SessNo) (r : Reply) → MayCome st (Said who number began r) → who.0 ≡ k → ReplyStep st (after st (Said who number began r)) k
 said_step st k number began who r may is =
     let h = of_said st who.0 (stmt_of st who.0) r may.3 in
@@ -269,6 +268,7 @@ left_step st k there none =
 
 -- ANY EVENT
 
+-- each event that may come
 pub step : (st : Plain) (e : Event) → MayCome st e → Step st (after st e) (who_of e)
 step st (Locked who table mode) may = locked_step st who.0 table mode may.0 may.1 (with_first st (record (session st who.0) { locks = (table, mode) ∷ (session st who.0).locks; gained = with_gain table mode (session st who.0).gained })) refl
 step st (CutAt who snap) may = cut_step st who.0 snap may.0 may.1

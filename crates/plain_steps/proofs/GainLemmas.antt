@@ -2,29 +2,27 @@
 use Rattle.std.proofs.Common.{◌≡◌, ◌≢◌, ◌+◌, ◌-◌, ◌<◌, ◌≤◌, ◌⊎◌, inl, inr, ℕ, suc, zero, Bool, true, false, ◌&&◌, ◌||◌, not, nat_eq, nat_le, cond, List, [], ◌∷◌, length, get_or, refl, ap, sym, ◌∙◌, subst, arith}
 use Rattle.std.specs.Prelude.{Option, Some, None, ◌==◌, option_map}
 use Rattle.std.specs.Str.{bytes_eq}
-use Rattle.std.proofs.lemmas.Bool.{cases_Bool, cases_lt, leb-false, not-false, cond-true, cond-false, or_parts, ne_eqb}
+use Rattle.std.proofs.lemmas.Bool.{cases_lt, leb-false, not-false, or_parts, ne_eqb}
 use Rattle.std.proofs.lemmas.List.{get_or_past}
 use Rattle.page_base.specs.declared.numbers.Mode.{Mode}
 use Rattle.page_base.specs.declared.numbers.Mode.TheVariants.{S, X}
 use Rattle.plain_model.specs.declared.stmt.Stmt.{Stmt}
-use Rattle.plain_model.specs.declared.stmt.Stmt.TheVariants.{UseDb, CreateTable, DropTable, Insert, Select, Update, Delete, BeginTran, Commit, Rollback, LockTimeoutZero, SetLevel, CreateSnap, DropDb, Restore, Broken}
+use Rattle.plain_model.specs.declared.stmt.Stmt.TheVariants.{UseDb, CreateTable, DropTable, Insert, Select, Update, Delete, Commit, Rollback, CreateSnap, DropDb, Restore}
 use Rattle.plain_model.specs.declared.stmt.SelectStmt.{SelectStmt}
 use Rattle.plain_model.specs.declared.stmt.SnapFile.{SnapFile}
 use Rattle.plain_model.specs.declared.event.LockName.{LockName}
 use Rattle.plain_model.specs.declared.event.LockName.TheVariants.{All, Table}
 use Rattle.plain_model.specs.declared.reply.Message.{Message}
-use Rattle.plain_model.specs.declared.reply.Reply.{Reply}
 use Rattle.plain_model.specs.declared.reply.Reply.TheVariants.{Ok, Msg}
-use Rattle.plain_model.specs.declared.reply.TheConstants.Message.{NO_TABLE, NO_DATABASE, SUSPECT, RESTORING, BEING_MADE, TABLE_IN_TRANSACTION, BAD_DEFINITION, NOT_BUILT, FILE_FAILED, IN_USE, OTHER_SNAPSHOT, REVERT_FAILED, NOTHING_TO_COMMIT, NOTHING_TO_ROLL_BACK}
+use Rattle.plain_model.specs.declared.reply.TheConstants.Message.{NO_TABLE, SUSPECT, BEING_MADE, TABLE_IN_TRANSACTION, BAD_DEFINITION, FILE_FAILED, IN_USE, OTHER_SNAPSHOT, REVERT_FAILED, NOTHING_TO_COMMIT, NOTHING_TO_ROLL_BACK}
 use Rattle.plain_model.specs.Messages.{plain, at_place, of_name}
-use Rattle.plain_model.specs.Meaning.{shape, change_and_reply}
-use Rattle.plain_model.specs.Statements.{is_of_rows, table_named}
-use Rattle.plain_model.specs.State.{Plain, Session, fresh_session, session, stmt_of, see, copy, is_source, is_snap, is_suspect, is_being_made, is_restoring, restored}
+use Rattle.plain_model.specs.Meaning.{shape}
+use Rattle.plain_model.specs.State.{Plain, Session, fresh_session, session, stmt_of, see, copy, is_source, is_snap, is_suspect, is_being_made, restored}
 use Rattle.plain_model.specs.Holding.{holds}
 use Rattle.plain_model.specs.Users.{first_session, is_locking, is_in_either, in_use_by, other_snap}
 use Rattle.plain_model.specs.Next.{Next, Replies, Wants, Cuts, Restores, Silent, unless, unless_shape, under, answers, no_write, is_database, next, next_of, next_stmt, next_define, next_change, next_select, no_snap, no_room, next_snap, no_restore, next_restore}
-use Rattle.plain_steps.proofs.LockLemmas.{same_bytes, other_bytes, bytes_same, Locks}
-use Rattle.plain_steps.proofs.ComingLemmas.{IsQuiet, IsWanted, passed, shaped, under_wants, of_built, quiet_wants, quiet_cuts, quiet_restores}
+use Rattle.plain_steps.proofs.LockLemmas.{same_bytes, Locks}
+use Rattle.plain_steps.proofs.ComingLemmas.{IsWanted, passed, shaped, under_wants, of_built, quiet_wants, quiet_cuts, quiet_restores}
 use Rattle.plain_steps.proofs.StillLemmas.{still_unless, still_shape, still_change, still_define, still_elsewhere, still_select, still_snap, still_drop, still_restore, still_use, still_ending}
 
 abbrev locks_on : Next → Bool
@@ -126,6 +124,7 @@ pub of_stmt : (st : Plain) (k : ℕ) (o : Option Stmt) (x : Next) → (x ≡ Sil
 of_stmt st k None x loud e = absurd (loud (sym e))
 of_stmt st k (Some stmt) x loud e = (stmt, refl, e)
 
+-- a lock is wanted only where it may be gained
 pub gains : (st : Plain) (k : ℕ) (name : LockName) (mode : Mode) → next st k ≡ Wants name mode → Gains st k name mode
 gains st k name mode e =
     let s = of_stmt st k (stmt_of st k) (Wants name mode) (λ y. absurd (cc)) e in
@@ -238,6 +237,7 @@ stmt_begins st k (CreateSnap name files of) snap low e = never (Begins st k) rev
 stmt_begins st k (Restore d name) snap low e = restore_begins st k (restored st k) d name snap low e
 stmt_begins st k stmt snap low e = absurd (cc)
 
+-- a revert begins only so
 pub begins : (st : Plain) (k : ℕ) (snap : List ℕ) → 1 ≤ k → next st k ≡ Restores snap → Begins st k
 begins st k snap low e =
     let s = of_stmt st k (stmt_of st k) (Restores snap) (λ y. absurd (cc)) e in

@@ -1,5 +1,5 @@
 -- Tables stay tables under changes whose rows are right, and what statements change is right.
-use Rattle.std.proofs.Common.{◌≡◌, ◌≢◌, ◌≤◌, ◌⊎◌, inl, inr, ℕ, Bool, true, false, cond, List, [], ◌∷◌, ◌++◌, map, length, refl, ap, sym, ◌∙◌, subst, All}
+use Rattle.std.proofs.Common.{◌≡◌, inl, inr, ℕ, true, false, List, [], ◌∷◌, length, refl, ap, sym, ◌∙◌, subst}
 use Rattle.std.specs.Prelude.{Option, Some, None, option_map, unwrap_or, ◌==◌}
 use Rattle.std.specs.List.{AllByRecursion}
 use Rattle.std.specs.Str.{bytes_eq}
@@ -12,18 +12,17 @@ use Rattle.page_base.specs.declared.column.Column.{Column}
 use Rattle.page_base.specs.declared.value.Value.{Value}
 use Rattle.plain_model.specs.declared.stmt.Stmt.{Stmt}
 use Rattle.plain_model.specs.declared.stmt.Stmt.TheVariants.{CreateTable, DropTable, Insert, Select, Update, Delete}
-use Rattle.plain_model.specs.declared.reply.Message.{Message}
 use Rattle.plain_model.specs.declared.reply.TheConstants.Message.{NO_TABLE}
 use Rattle.plain_model.specs.Messages.{plain}
 use Rattle.plain_model.specs.Sound.{is_sound, is_definition, are_columns}
 use Rattle.plain_model.specs.Tables.{Table, Tables, Change, Put, Cut, Add, Remove, with_row, without_key, applied, apply}
 use Rattle.plain_model.specs.Meaning.{shape, change_and_reply, table_in}
-use Rattle.plain_model.specs.Statements.{shape_over, data_over, table_named, is_of_rows, needs}
+use Rattle.plain_model.specs.Statements.{shape_over, data_over, table_named, is_of_rows}
 use Rattle.row_fmt.specs.Rows.{IsRowOf}
 use Rattle.row_types.specs.Puts.{Puts}
 use Rattle.row_types.specs.Limits.{KeepsLimits}
 use Rattle.row_types.proofs.PutLemmas.{puts_what_is_held, puts_what_is_small}
-use Rattle.plain_steps.specs.Good.{IsGood, AreGood}
+use Rattle.plain_steps.specs.Good.{AreGood}
 use Rattle.plain_steps.proofs.LockLemmas.{same_bytes}
 use Rattle.plain_steps.proofs.ApplyLemmas.{cols_at, named_by, applied_here, applied_there, cols_applied, IsOfRow, IsIn, data_in}
 use Rattle.plain_steps.proofs.ComingLemmas.{IsNoBad}
@@ -35,12 +34,15 @@ use Rattle.plain_steps.proofs.RowLemmas.{IsRight, IsSound, good_of, sound_of, so
 pub record AreSound (tables : Tables) : Type 0 where
   pub each : (name : List ℕ) (t : Table) → finite.get tables name ≡ Some t → IsSound t
 
+-- good tables are sound
 pub all_sound : (tables : Tables) → AreGood tables → AreSound tables
 all_sound tables h = record { each = λ name t e. sound_of t (h name t e) }
 
+-- and sound tables are good
 pub all_good : (tables : Tables) → AreSound tables → AreGood tables
 all_good tables h name t e = good_of t (h.each name t e)
 
+-- where there are none, each is sound
 pub none_sound : AreSound finite.empty
 none_sound = record { each = λ name t e. absurd (let x : None ≡ Some t = sym (get-empty (slice_cmp nat_cmp) name) ∙ e in cc) }
 
@@ -58,6 +60,7 @@ fits_over a b (Cut table key) same h = tt
 fits_over a b (Add table cols) same h = h
 fits_over a b (Remove table) same h = tt
 
+-- so it is of many changes
 pub all_fit_over : (a b : Tables) (cs : List Change) → ((q : List ℕ) → cols_at b q ≡ cols_at a q) → AllByRecursion (Fits a) cs → AllByRecursion (Fits b) cs
 all_fit_over a b [] same h = tt
 all_fit_over a b (c ∷ cs) same h = (fits_over a b c same h.0, all_fit_over a b cs same h.1)
@@ -82,10 +85,12 @@ here_sound (Remove table) tables t h f e = absurd (let x : None ≡ Some t = sym
 
 -- one change
 pub applied_sound : (c : Change) (tables : Tables) → AreSound tables → Fits tables c → AreSound (applied c tables)
-applied_sound c tables h f = record { each = λ q t e. elim (cases_Bool (bytes_eq q (named_by c))) [
-  | inl same ↦ here_sound c tables t h f (subst (λ n. finite.get (applied c tables) n ≡ Some t) (same_bytes q (named_by c) same) e)
-  | inr other ↦ h.each q t (sym (applied_there c tables q other) ∙ e)
-] }
+applied_sound c tables h f = record {
+  each = λ q t e. elim (cases_Bool (bytes_eq q (named_by c))) [
+    | inl same ↦ here_sound c tables t h f (subst (λ n. finite.get (applied c tables) n ≡ Some t) (same_bytes q (named_by c) same) e)
+    | inr other ↦ h.each q t (sym (applied_there c tables q other) ∙ e)
+  ];
+}
 
 -- changes of rows
 pub apply_sound : (cs : List Change) (tables : Tables) → AreSound tables → AllByRecursion IsOfRow cs → AllByRecursion (Fits tables) cs → AreSound (apply cs tables)

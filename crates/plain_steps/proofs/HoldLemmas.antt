@@ -1,29 +1,24 @@
 -- What an event leaves of its own session: its locks, and the changes that wait.
-use Rattle.std.proofs.Common.{◌≡◌, ◌≢◌, ◌+◌, ◌-◌, ◌<◌, ◌≤◌, ◌⊎◌, inl, inr, ℕ, suc, zero, Bool, true, false, ◌&&◌, ◌||◌, not, nat_eq, nat_le, cond, List, [], ◌∷◌, ◌++◌, length, map, get_or, refl, ap, sym, ◌∙◌, subst, arith}
-use Rattle.std.specs.Prelude.{Option, Some, None, ◌==◌, slice_get}
-use Rattle.std.specs.Str.{bytes_eq}
+use Rattle.std.proofs.Common.{◌≡◌, ◌≢◌, ◌-◌, ◌≤◌, ◌⊎◌, inl, inr, ℕ, true, false, List, [], ◌∷◌, ◌++◌, length, ap, sym, ◌∙◌, subst, arith}
+use Rattle.std.specs.Prelude.{None}
 use Rattle.std.specs.List.{AllByRecursion}
-use Rattle.std.proofs.lemmas.Bool.{cases_eq, eqb-true, eqb-false, or_parts}
 use Rattle.page_base.specs.declared.numbers.Mode.{Mode}
 use Rattle.page_base.specs.declared.numbers.Mode.TheVariants.{S, X}
 use Rattle.plain_model.specs.declared.stmt.Stmt.{Stmt}
-use Rattle.plain_model.specs.declared.event.Event.{Event}
 use Rattle.plain_model.specs.declared.event.LockName.{LockName}
 use Rattle.plain_model.specs.declared.event.LockName.TheVariants.{All, Table}
 use Rattle.plain_model.specs.Tables.{Change}
-use Rattle.plain_model.specs.Journal.{Opening, Entry}
+use Rattle.plain_model.specs.Journal.{Entry}
 use Rattle.plain_model.specs.Meaning.{change_and_reply, table_in}
-use Rattle.plain_model.specs.Statements.{is_of_rows, table_named}
-use Rattle.plain_model.specs.State.{Plain, Session, fresh_session, session, stmt_of, see, start, is_source, is_restoring, restored}
+use Rattle.plain_model.specs.Statements.{table_named}
+use Rattle.plain_model.specs.State.{Plain, Session, session, stmt_of, see, is_source}
 use Rattle.plain_model.specs.Holding.{holds, is_in_the_way, covers}
 use Rattle.plain_model.specs.Keeping.{kept_at}
-use Rattle.plain_model.specs.Legal.{MayCome, Legal, after, end, without_restoring}
-use Rattle.plain_steps.proofs.SplitLemmas.{along}
-use Rattle.plain_steps.proofs.LockLemmas.{Locks, holds_more, holds_cases, kept_fewer, kept_writes, kept_all, kept_none, writes_in_the_way, reads_in_the_way}
+use Rattle.plain_steps.proofs.LockLemmas.{Locks, holds_more, holds_cases, kept_fewer, kept_writes, kept_all, kept_none, reads_in_the_way}
 use Rattle.plain_steps.proofs.ApplyLemmas.{IsOfRow, IsIn, named_by, data_in}
 use Rattle.plain_steps.proofs.ComingLemmas.{Writes}
-use Rattle.plain_steps.proofs.StepLemmas.{at, History, Waits, Ends, Adds, Puts, Commits, CutsOff, Drops, Reverts, Current, Same, Enters, Leaves}
-use Rattle.plain_steps.proofs.EventLemmas.{Locking, Gained, Stayed, Answered, Reverting, Goes, Over, Begun, Step, who_of, step}
+use Rattle.plain_steps.proofs.StepLemmas.{at, History, Waits, Ends, Adds, Puts, Commits, CutsOff, Drops, Reverts}
+use Rattle.plain_steps.proofs.EventLemmas.{Locking, Gained, Stayed, Answered}
 
 -- a change of a row, whose table is held in X
 abbrev pub IsUnder : Locks → Change → Type 0
@@ -31,7 +26,7 @@ IsUnder locks c = IsOfRow c × (holds locks (Table (named_by c)) X ≡ true)
 
 -- A LOCK THAT IS HELD NOW
 
--- who holds a table at all is in a writer's way, whatever the lock is called
+-- who holds a table at all is in a writer's way, whichever lock that one is to gain
 pub way_of_write : (ls : Locks) (name : LockName) (m : Mode) → covers m X ≡ true → holds ls name S ≡ true → is_in_the_way ls name m ≡ true
 way_of_write ls name S c h = absurd (let x : false ≡ true = c in cc)
 way_of_write ls name X c h = reads_in_the_way ls name h

@@ -1,6 +1,6 @@
 -- The source's tables and those of each copy stay tables all along a legal history.
-use Rattle.std.proofs.Common.{◌≡◌, ◌≢◌, ◌+◌, ◌-◌, ◌<◌, ◌≤◌, ◌⊎◌, inl, inr, ℕ, suc, zero, Bool, true, false, cond, List, [], ◌∷◌, ◌++◌, map, length, get_or, refl, ap, sym, ◌∙◌, subst, All, arith}
-use Rattle.std.specs.Prelude.{Option, Some, None, option_map, unwrap_or, slice_get}
+use Rattle.std.proofs.Common.{◌≡◌, ◌≢◌, ◌-◌, inl, inr, ℕ, suc, zero, Bool, true, false, cond, List, [], ◌∷◌, ◌++◌, map, get_or, refl, ap, sym, ◌∙◌, subst}
+use Rattle.std.specs.Prelude.{Option, Some, None, unwrap_or, slice_get}
 use Rattle.std.specs.List.{AllByRecursion, list_all}
 use Rattle.std.specs.FinMap as finite
 use Rattle.std.specs.FinMap.{find, get-insert, get-remove, get-from_entries}
@@ -8,19 +8,17 @@ use Rattle.std.specs.Cmp.Lexicographic.{slice_cmp, nat_list_cmp_total}
 use Rattle.std.specs.Ordering.{nat_cmp, eq_by_cmp}
 use Rattle.std.proofs.lemmas.Bool.{cases_eq, and_parts}
 use Rattle.std.proofs.lemmas.List.Elements.{recursion_from_All}
-use Rattle.page_base.specs.declared.numbers.Mode.TheVariants.{S, X}
+use Rattle.page_base.specs.declared.numbers.Mode.TheVariants.{X}
 use Rattle.plain_model.specs.declared.stmt.Stmt.{Stmt}
 use Rattle.plain_model.specs.declared.event.Event.{Event}
-use Rattle.plain_model.specs.declared.event.LockName.TheVariants.{All as Everything, Table as OneTable}
+use Rattle.plain_model.specs.declared.event.LockName.TheVariants.{Table as OneTable}
 use Rattle.plain_model.specs.Sound.{is_sound, are_sound}
 use Rattle.plain_model.specs.Tables.{Tables, Change, apply}
 use Rattle.plain_model.specs.Journal.{Opening, OpenedSnap, Entry, copy_in}
 use Rattle.plain_model.specs.Journal as journal
-use Rattle.plain_model.specs.Meaning.{shape, change_and_reply, table_in}
-use Rattle.plain_model.specs.Statements.{table_named}
-use Rattle.plain_model.specs.State.{Plain, Session, fresh_session, session, stmt_of, start, see, committed, copy}
-use Rattle.plain_model.specs.Holding.{holds}
-use Rattle.plain_model.specs.Legal.{Legal, MayCome, after, end}
+use Rattle.plain_model.specs.Meaning.{shape, change_and_reply}
+use Rattle.plain_model.specs.State.{Plain, Session, session, stmt_of, start, see, committed, copy}
+use Rattle.plain_model.specs.Legal.{MayCome, after, end}
 use Rattle.plain_steps.specs.Good.{AreGood, BeginsGood, AreKeptGood}
 use Rattle.plain_steps.proofs.SplitLemmas.{along}
 use Rattle.plain_steps.proofs.LockLemmas.{holds_shared}

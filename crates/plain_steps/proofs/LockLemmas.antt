@@ -1,6 +1,6 @@
 -- Which locks a session holds, before and behind a reply, and who is in whose way.
-use Rattle.std.proofs.Common.{◌≡◌, ◌≢◌, ◌+◌, ◌-◌, ◌<◌, ◌≤◌, ◌⊎◌, inl, inr, ℕ, suc, zero, Bool, true, false, ◌&&◌, ◌||◌, not, nat_eq, cond, List, [], ◌∷◌, length, get_or, refl, ap, sym, ◌∙◌, subst, arith}
-use Rattle.std.specs.Prelude.{Option, Some, None, ◌==◌, filter}
+use Rattle.std.proofs.Common.{◌≡◌, ◌≢◌, ◌+◌, ◌-◌, ◌<◌, ◌≤◌, ◌⊎◌, inl, inr, ℕ, suc, zero, Bool, true, false, ◌&&◌, ◌||◌, not, nat_eq, cond, List, [], ◌∷◌, length, get_or, refl, ap, sym, ◌∙◌, arith}
+use Rattle.std.specs.Prelude.{Some, None, filter}
 use Rattle.std.specs.List.{list_any}
 use Rattle.std.specs.Str.{bytes_eq}
 use Rattle.std.proofs.lemmas.Bool.{cases_Bool, cases_lt, and_parts, and_from, and_right, or_cases, or_left, or_right, ne_eqb}
@@ -14,28 +14,33 @@ use Rattle.plain_model.specs.declared.stmt.Level.{Level}
 use Rattle.plain_model.specs.declared.stmt.Level.TheVariants as levels
 use Rattle.plain_model.specs.State.{Plain, Session, fresh_session}
 use Rattle.plain_model.specs.Holding.{same_lock, covers, conflicts, holds, is_in_the_way, holder_from, held}
-use Rattle.plain_model.specs.Keeping.{is_shared, is_on_table, was_gained, without_tables, without_all, kept_at}
+use Rattle.plain_model.specs.Keeping.{is_shared, is_on_table, was_gained, without_tables, kept_at}
 
 abbrev pub Locks : Type 0
 Locks = List (LockName × Mode)
 
 -- NAMES
 
+-- names compared
 pub bytes_same : (a : List ℕ) → bytes_eq a a ≡ true
 bytes_same a = (bytes_eq-Decides a a).1 refl
 
+-- compared as the same, they are
 pub same_bytes : (a b : List ℕ) → bytes_eq a b ≡ true → a ≡ b
 same_bytes a b e = (bytes_eq-Decides a b).0 e
 
+-- and as others they differ
 pub other_bytes : (a b : List ℕ) → (a ≡ b → ⊥) → bytes_eq a b ≡ false
 other_bytes a b ne = elim (cases_Bool (bytes_eq a b)) [ inl t ↦ absurd (ne (same_bytes a b t)) | inr f ↦ f ]
 
+-- locks of one name
 pub lock_is : (a b : LockName) → same_lock a b ≡ true → a ≡ b
 lock_is All All e = refl
 lock_is All (Table b) e = absurd (let x : false ≡ true = e in cc)
 lock_is (Table a) All e = absurd (let x : false ≡ true = e in cc)
 lock_is (Table a) (Table b) e = ap Table (same_bytes a b e)
 
+-- a lock has the name of itself
 pub lock_same : (a : LockName) → same_lock a a ≡ true
 lock_same All = refl
 lock_same (Table a) = bytes_same a
@@ -102,6 +107,7 @@ reads_in_the_way ls name h = any_weaker (λ (l : LockName × Mode). same_lock l.
 pub holds_more : (l : LockName × Mode) (ls : Locks) (name : LockName) (mode : Mode) → holds ls name mode ≡ true → holds (l ∷ ls) name mode ≡ true
 holds_more l ls name mode h = or_right (same_lock l.0 name && covers l.1 mode) (holds ls name mode) h
 
+-- is held: the new one, or one of the others
 pub holds_cases : (a : LockName) (m : Mode) (ls : Locks) (name : LockName) (mode : Mode) → holds ((a, m) ∷ ls) name mode ≡ true → ((a ≡ name) × (covers m mode ≡ true)) ⊎ (holds ls name mode ≡ true)
 holds_cases a m ls name mode h = elim (or_cases (same_lock a name && covers m mode) (holds ls name mode) h) [
   | inl e ↦ let p = and_parts (same_lock a name) (covers m mode) e in inl (lock_is a name p.0, p.1)
@@ -171,7 +177,7 @@ kept_all levels.Committed gained ls table on all = by (list_any is_on_table (wit
     by true e h = first
     by false e h =
         let there : list_any is_on_table (without_tables gained ls) ≡ true = any_weaker (λ (l : LockName × Mode). same_lock l.0 (Table table) && covers l.1 S) is_on_table on_table (without_tables gained ls)
-            (any_filtered (λ (l : LockName × Mode). same_lock l.0 (Table table) && covers l.1 S) (λ (l : LockName × Mode). not (was_gained gained l)) (without_tables gained ls) h) in
+        (any_filtered (λ (l : LockName × Mode). same_lock l.0 (Table table) && covers l.1 S) (λ (l : LockName × Mode). not (was_gained gained l)) (without_tables gained ls) h) in
         absurd (let x : false ≡ true = sym e ∙ there in cc)
 
 -- of no locks none are left

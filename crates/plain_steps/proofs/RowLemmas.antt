@@ -1,12 +1,11 @@
 -- A table whose rows are right stays so when a right row is put or a row is cut.
-use Rattle.std.proofs.Common.{◌≡◌, ◌≤◌, ℕ, Bool, true, false, ◌&&◌, cond, List, [], ◌∷◌, map, refl, ap, sym, ◌∙◌, subst, All}
-use Rattle.std.specs.Prelude.{T, Option, Some, None}
+use Rattle.std.proofs.Common.{◌≡◌, Bool, true, false, ◌&&◌, cond, List, [], ◌∷◌, map, refl, ap, sym, ◌∙◌, subst, All}
+use Rattle.std.specs.Prelude.{T, Some, None}
 use Rattle.std.specs.List.{AllByRecursion}
 use Rattle.std.specs.declared.cmp.Ordering.{Ordering}
 use Rattle.std.specs.declared.cmp.Ordering.TheVariants.{Less, Equal, Greater}
-use Rattle.std.specs.Ordering.{nat_cmp, int_cmp, ordering_then, is_eq, is_lt}
+use Rattle.std.specs.Ordering.{int_cmp, ordering_then, is_eq, is_lt}
 use Rattle.std.specs.Cmp.{tied_itself}
-use Rattle.std.specs.Cmp.Lexicographic.{slice_cmp}
 use Rattle.std.specs.FinMap as finite
 use Rattle.std.specs.FinMap.{IsAntisymmetric, nat_cmp-IsAntisymmetric, int_cmp-IsAntisymmetric, slice_cmp-IsAntisymmetric, find, is_sorted, entries_sorted, get-entries, get-empty, get-insert, get-remove}
 use Rattle.std.specs.FinMap.Entries.{below_all, find_tied}
@@ -17,9 +16,8 @@ use Rattle.page_base.specs.declared.value.Value.{Value}
 use Rattle.page_base.specs.declared.value.Value.TheVariants.{Null, Int, Big, Text}
 use Rattle.page_base.specs.Order.{value_cmp, key_cmp}
 use Rattle.plain_model.specs.Sound.{is_definition}
-use Rattle.plain_model.specs.Tables.{Table, IsKeyed, rows_of, key_of, with_row, without_key}
+use Rattle.plain_model.specs.Tables.{Table, rows_of, key_of, with_row, without_key}
 use Rattle.row_fmt.specs.Rows.{FitsColumns, IsRowOf}
-use Rattle.row_types.specs.Fitting.{IsFitting}
 use Rattle.row_types.specs.Limits.{KeepsLimits}
 use Rattle.plain_steps.specs.Good.{IsGood}
 
@@ -114,6 +112,7 @@ rows_all P t h = All-from_recursion P (rows_of t) (all_found P (finite.entries t
 rows_each : (P : List Value → Type 0) (t : Table) → All P (rows_of t) → (key row : List Value) → finite.get t.rows key ≡ Some row → P row
 rows_each P t h key row f = found_in P (finite.entries t.rows) (recursion_from_All P (rows_of t) h) key row (sym (get-entries t.rows key) ∙ f)
 
+-- a sound table is a good one
 pub good_of : (t : Table) → IsSound t → IsGood t
 good_of t h = record {
   fits = record { definition = h.definition; rows = rows_all (FitsColumns t.cols) t (λ key row f. (h.right key row f).held.fits) };
@@ -122,6 +121,7 @@ good_of t h = record {
   keyed = record { at = h.keyed };
 }
 
+-- and the other way round
 pub sound_of : (t : Table) → IsGood t → IsSound t
 sound_of t h = record {
   definition = h.fits.definition;

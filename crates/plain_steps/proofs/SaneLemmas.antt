@@ -1,30 +1,24 @@
 -- What holds in every state of a legal history: whoever writes a table holds it alone, changes wait under locks, and a
 -- revert has the source for itself.
-use Rattle.std.proofs.Common.{◌≡◌, ◌≢◌, ◌+◌, ◌-◌, ◌<◌, ◌≤◌, ◌⊎◌, inl, inr, ℕ, suc, zero, Bool, true, false, ◌&&◌, ◌||◌, not, nat_eq, nat_le, cond, List, [], ◌∷◌, ◌++◌, length, map, get_or, refl, ap, sym, ◌∙◌, subst, arith}
+use Rattle.std.proofs.Common.{◌≡◌, ◌≢◌, ◌-◌, ◌≤◌, ◌⊎◌, inl, inr, ℕ, suc, zero, Bool, true, false, cond, List, [], ◌∷◌, length, map, get_or, refl, ap, sym, ◌∙◌, subst, arith}
 use Rattle.std.specs.Prelude.{Option, Some, None, ◌==◌, slice_get}
 use Rattle.std.specs.Str.{bytes_eq}
 use Rattle.std.specs.List.{AllByRecursion}
 use Rattle.std.proofs.lemmas.Bool.{cases_eq, eqb-true, eqb-false, or_parts}
-use Rattle.page_base.specs.declared.numbers.Mode.{Mode}
 use Rattle.page_base.specs.declared.numbers.Mode.TheVariants.{S, X}
 use Rattle.plain_model.specs.declared.stmt.Stmt.{Stmt}
 use Rattle.plain_model.specs.declared.event.Event.{Event}
 use Rattle.plain_model.specs.declared.event.LockName.{LockName}
 use Rattle.plain_model.specs.declared.event.LockName.TheVariants.{All, Table}
 use Rattle.plain_model.specs.Tables.{Change}
-use Rattle.plain_model.specs.Journal.{Opening, Entry}
-use Rattle.plain_model.specs.Meaning.{change_and_reply, table_in}
-use Rattle.plain_model.specs.Statements.{is_of_rows, table_named}
-use Rattle.plain_model.specs.State.{Plain, Session, fresh_session, session, stmt_of, see, start, is_source, is_restoring, restored}
-use Rattle.plain_model.specs.Holding.{holds, is_in_the_way, covers}
-use Rattle.plain_model.specs.Keeping.{kept_at}
+use Rattle.plain_model.specs.Journal.{Opening}
+use Rattle.plain_model.specs.State.{Plain, Session, fresh_session, session, stmt_of, start, is_source, is_restoring, restored}
+use Rattle.plain_model.specs.Holding.{holds}
 use Rattle.plain_model.specs.Legal.{MayCome, Legal, after, end, without_restoring}
 use Rattle.plain_steps.proofs.SplitLemmas.{along}
-use Rattle.plain_steps.proofs.LockLemmas.{Locks, holds_more, holds_cases, kept_fewer, kept_writes, kept_all, kept_none, writes_in_the_way, reads_in_the_way}
-use Rattle.plain_steps.proofs.ApplyLemmas.{IsOfRow, IsIn, named_by, data_in}
-use Rattle.plain_steps.proofs.ComingLemmas.{Writes}
-use Rattle.plain_steps.proofs.StepLemmas.{at, History, Waits, Ends, Adds, Puts, Commits, CutsOff, Drops, Reverts, Current, Same, Enters, Leaves}
-use Rattle.plain_steps.proofs.EventLemmas.{Locking, Gained, Stayed, Answered, Reverting, Goes, Over, Begun, Step, who_of, step}
+use Rattle.plain_steps.proofs.LockLemmas.{writes_in_the_way}
+use Rattle.plain_steps.proofs.StepLemmas.{at, Current, Same, Enters, Leaves}
+use Rattle.plain_steps.proofs.EventLemmas.{Reverting, Goes, Over, Begun, Step, who_of, step}
 use Rattle.plain_steps.proofs.HoldLemmas.{IsUnder, held_now, writes_stay, way_of_write, tabled_now, nothing_held, idle_now, covered_now}
 
 -- the statement that comes next at a place
@@ -42,6 +36,7 @@ pub record Rests (st : Plain) (r : ℕ × List ℕ) : Type 0 where
   pub outside : (at st (r.0 - 1)).depth ≡ 0
   pub others : (i : ℕ) → i ≢ r.0 - 1 → IsOut st i
 
+-- What holds in each state.
 pub record Sane (st : Plain) : Type 0 where
   -- a table that one session holds in X no other holds
   pub exclusive : (i j : ℕ) (name : LockName) → i ≢ j → holds (at st i).locks name X ≡ true → holds (at st j).locks name S ≡ true → ⊥
@@ -51,6 +46,7 @@ pub record Sane (st : Plain) : Type 0 where
   pub covered : (i : ℕ) → AllByRecursion (IsUnder (at st i).locks) (at st i).work
   -- who holds a table holds the table of tables
   pub tabled : (i : ℕ) (table : List ℕ) → holds (at st i).locks (Table table) S ≡ true → holds (at st i).locks All S ≡ true
+  -- a revert has the source for itself
   pub rests : (r : ℕ × List ℕ) → st.restoring ≡ Some r → Rests st r
 
 -- A REVERT
@@ -213,6 +209,7 @@ module _ (st st' : Plain) (k : ℕ) (x : Step st st' k) (sane : Sane st) where
             };
           })
 
+  -- what holds before an event holds behind it
   pub sane_next : Sane st'
   sane_next = record {
     exclusive = exclusive_step;
@@ -224,14 +221,17 @@ module _ (st st' : Plain) (k : ℕ) (x : Step st st' k) (sane : Sane st) where
 
 -- A WHOLE HISTORY
 
+-- so it is of each event that may come
 pub sane_after : (st : Plain) (e : Event) → Sane st → MayCome st e → Sane (after st e)
 sane_after st e sane may = sane_next st (after st e) (who_of e) (step st e may) sane
 
+-- at first each session is a fresh one
 pub fresh_at : (scripts : List (List Stmt)) (i : ℕ) → get_or (map (λ (_ : List Stmt). fresh_session) scripts) i fresh_session ≡ fresh_session
 fresh_at [] i = refl
 fresh_at (s ∷ ss) zero = refl
 fresh_at (s ∷ ss) (suc i) = fresh_at ss i
 
+-- then all of it holds
 pub sane_start : (opening : Opening) (scripts : List (List Stmt)) → Sane (start opening scripts)
 sane_start opening scripts = record {
   exclusive = λ i j name ne h g. absurd (let x : false ≡ true = subst (λ (t : Session). holds t.locks name X ≡ true) (fresh_at scripts i) h in cc);

@@ -1,5 +1,5 @@
 -- A legal history is cut in two, and what each event keeps holds all along it.
-use Rattle.std.proofs.Common.{◌≡◌, List, [], ◌∷◌, ◌++◌, refl}
+use Rattle.std.proofs.Common.{List, [], ◌∷◌, ◌++◌}
 use Rattle.plain_model.specs.declared.event.Event.{Event}
 use Rattle.plain_model.specs.State.{Plain}
 use Rattle.plain_model.specs.Legal.{LegalFrom, MayCome, end_from, after}

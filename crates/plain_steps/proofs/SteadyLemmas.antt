@@ -1,7 +1,6 @@
 -- While a session stays in its transaction and holds the table of tables, the source keeps its columns, and the tables
 -- that it holds.
-use Rattle.std.proofs.Common.{◌≡◌, ◌≢◌, ◌+◌, ◌-◌, ◌<◌, ◌≤◌, ◌⊎◌, inl, inr, ℕ, suc, zero, Bool, true, false, ◌&&◌, ◌||◌, not, nat_eq, nat_le, cond, List, [], ◌∷◌, ◌++◌, length, map, get_or, refl, ap, sym, ◌∙◌, subst, arith}
-use Rattle.std.specs.Prelude.{Option, Some, None}
+use Rattle.std.proofs.Common.{◌≡◌, ◌≢◌, ◌-◌, ◌≤◌, inl, inr, ℕ, true, false, List, [], ◌∷◌, refl, ap, sym, ◌∙◌, subst, arith}
 use Rattle.std.specs.FinMap as finite
 use Rattle.std.specs.Str.{bytes_eq}
 use Rattle.std.specs.List.{AllByRecursion, list_any}
@@ -43,6 +42,7 @@ Remains st st' k i = i ≡ k - 1 → (1 ≤ (at st i).depth) × (1 ≤ (at st' i
 steady_same : (st st' : Plain) (i : ℕ) → committed st' ≡ committed st → Steady st st' i
 steady_same st st' i e = record { cols = λ q. ap (λ (t : Tables). cols_at t q) e; rows = λ q h. ap (λ (t : Tables). finite.get t q) e }
 
+-- what waits are changes of rows
 pub of_rows : (locks : Locks) (cs : List Change) → AllByRecursion (IsUnder locks) cs → AllByRecursion IsOfRow cs
 of_rows locks [] h = tt
 of_rows locks (c ∷ cs) h = (h.0.0, of_rows locks cs h.1)
@@ -141,6 +141,7 @@ module _ (st st' : Plain) (k : ℕ) (x : Step st st' k) (sane : Sane st) (i : �
 
 -- EVENTS IN THE MIDST OF A TRANSACTION
 
+-- it is in its transaction at first
 pub stays_first : (st : Plain) (k : ℕ) (es : List Event) → StaysIn st k es → 1 ≤ (session st k).depth
 stays_first st k [] h = h
 stays_first st k (e ∷ es) h = h.0
@@ -150,6 +151,7 @@ pub record Amid (st st' : Plain) (i : ℕ) : Type 0 where
   pub cols : (q : List ℕ) → cols_at (committed st') q ≡ cols_at (committed st) q
   pub rows : (q : List ℕ) → Tracked st i (Table q) → finite.get (committed st') q ≡ finite.get (committed st) q
 
+-- events that leave its transaction open leave it these
 pub amid : (st : Plain) (k : ℕ) (es : List Event) → Sane st → LegalFrom st es → StaysIn st k es → Tracked st (k - 1) All → Amid st (end_from st es) (k - 1)
 amid st k [] sane legal stays all = record { cols = λ q. refl; rows = λ q t. refl }
 amid st k (e ∷ es) sane legal stays all =

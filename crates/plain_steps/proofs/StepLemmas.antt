@@ -1,43 +1,30 @@
 -- One event of a legal history, as far as the laws look: which session it changes, and what it does to the session's
 -- locks, to the journal, to the snapshots' names and to a revert.
-use Rattle.std.proofs.Common.{◌≡◌, ◌≢◌, ◌+◌, ◌-◌, ◌<◌, ◌≤◌, ◌⊎◌, inl, inr, ℕ, suc, zero, Bool, true, false, ◌&&◌, ◌||◌, not, nat_eq, nat_le, cond, IsTrue, List, [], ◌∷◌, ◌++◌, length, map, get_or, refl, ap, sym, ◌∙◌, subst, arith, length-set}
-use Rattle.std.specs.Prelude.{Option, Some, None, ◌==◌, option_map, slice_get, filter}
+use Rattle.std.proofs.Common.{◌≡◌, ◌+◌, ◌-◌, ◌⊎◌, inl, inr, ℕ, Bool, true, false, ◌||◌, not, nat_le, cond, List, [], ◌∷◌, ◌++◌, length, get_or, refl, sym, subst, arith}
+use Rattle.std.specs.Prelude.{Option, Some, None, ◌==◌, option_map, filter}
 use Rattle.std.specs.List.{list_any}
 use Rattle.std.specs.Str.{bytes_eq}
 use Rattle.std.proofs.Math.ListN.{set}
-use Rattle.std.proofs.lemmas.Bool.{cases_Bool, cases_lt, leb-true, leb-false, eqb-true, eqb-false, and_parts, or_parts, or_from, not-false, false_from_ne_true}
-use Rattle.std.proofs.lemmas.List.{get_or-set_same, get_or-set_other, set-get_or}
-use Rattle.std.proofs.lemmas.List.Folds.{list_any-append}
+use Rattle.std.proofs.lemmas.Bool.{leb-true, eqb-true, eqb-false, or_parts, or_from}
+use Rattle.std.proofs.lemmas.List.{set-get_or}
 use Rattle.page_base.specs.declared.value.Value.{Value}
-use Rattle.page_base.specs.declared.numbers.Mode.{Mode}
-use Rattle.page_base.specs.declared.numbers.Mode.TheVariants.{S, X}
 use Rattle.plain_model.specs.declared.stmt.Level.{Level}
 use Rattle.plain_model.specs.declared.stmt.Stmt.{Stmt}
-use Rattle.plain_model.specs.declared.stmt.Stmt.TheVariants.{UseDb, CreateTable, DropTable, Insert, Select, Update, Delete, BeginTran, Commit, Rollback, LockTimeoutZero, SetLevel, CreateSnap, DropDb, Restore, Broken}
-use Rattle.plain_model.specs.declared.event.Event.{Event}
-use Rattle.plain_model.specs.declared.event.Event.TheVariants.{Locked, CutAt, RestoreAt, Turned, Said, Left}
-use Rattle.plain_model.specs.declared.event.LockName.{LockName}
-use Rattle.plain_model.specs.declared.event.LockName.TheVariants.{All, Table}
+use Rattle.plain_model.specs.declared.stmt.Stmt.TheVariants.{UseDb, CreateTable, DropTable, Insert, Update, Delete, BeginTran, Commit, Rollback, SetLevel, CreateSnap, DropDb, Restore}
 use Rattle.plain_model.specs.declared.reply.Message.{Message}
 use Rattle.plain_model.specs.declared.reply.Reply.{Reply}
 use Rattle.plain_model.specs.declared.reply.Reply.TheVariants.{Ok, Count, Rows, Msg}
 use Rattle.plain_model.specs.declared.reply.TheConstants.Message.{NO_MEMORY, FILE_FAILED, FILE_NOT_REMOVED, LOG_FAILED, NO_DATABASE, RESTORING, BEING_MADE, SUSPECT, OTHER_SNAPSHOT, IN_USE}
 use Rattle.plain_model.specs.Messages.{plain, at_place, of_name}
 use Rattle.plain_model.specs.Tables.{Change}
-use Rattle.plain_model.specs.Journal.{Opening, Entry, Committed, Cut, Dropped, Reverted}
+use Rattle.plain_model.specs.Journal.{Entry, Committed, Cut, Dropped, Reverted}
 use Rattle.plain_model.specs.Meaning.{shape, change_and_reply}
-use Rattle.plain_model.specs.Statements.{is_of_rows, table_named}
-use Rattle.plain_model.specs.State.{Plain, Session, Snap, fresh_session, session, stmt_of, see, is_session, is_source, is_snap, is_suspect, is_being_made, is_restoring, restored, files_of, master}
-use Rattle.plain_model.specs.Holding.{holds, is_in_the_way}
-use Rattle.plain_model.specs.Keeping.{kept_at, kept_locks, with_gain}
+use Rattle.plain_model.specs.State.{Plain, Session, Snap, fresh_session, session, stmt_of, see, is_suspect, is_being_made, is_restoring, restored, files_of}
 use Rattle.plain_model.specs.Users.{in_use_by, other_snap}
-use Rattle.plain_model.specs.Next.{Next, Replies, Wants, Cuts, Restores, Silent, unless, unless_shape, is_database, next, next_of, next_stmt, next_use, next_define, next_change, no_restore, next_restore, sparse_names}
+use Rattle.plain_model.specs.Next.{Next, Replies, Restores, unless, unless_shape, is_database, next_of, next_stmt, no_restore, next_restore, sparse_names}
 use Rattle.plain_model.specs.Free.{IsFree, is_of_tables}
-use Rattle.plain_model.specs.Legal.{MayCome, LegalFrom, end_from, after, effect, answered, counted, with_first, with_changes, with_session, without_restoring, outside, after_commit, uncommitted, without_snap, without_made, unmade, with_doubt, without_names, dropped, undropped, reverted, turned, new_names}
-use Rattle.plain_model.specs.Alone.{tells_of_tables}
-use Rattle.plain_steps.proofs.LockLemmas.{free_of}
-use Rattle.plain_steps.proofs.ComingLemmas.{IsQuiet, IsWanted, Writes, Defines, Under, passed, shaped, same_reply, quiet_reply, free_loud, of_built, well_changed, well_defined, create_good, drop_good}
-use Rattle.plain_steps.proofs.GainLemmas.{Gains, Begins, of_stmt, gains, cuts, begins}
+use Rattle.plain_model.specs.Legal.{effect, with_changes, with_session, outside, after_commit, uncommitted, without_snap, without_made, unmade, with_doubt, without_names, undropped, reverted}
+use Rattle.plain_steps.proofs.ComingLemmas.{IsQuiet, Writes, Under, passed, shaped, same_reply, quiet_reply, free_loud, of_built, well_changed, well_defined, create_good, drop_good}
 
 -- the session at a place
 abbrev pub at : Plain → ℕ → Session
@@ -49,13 +36,14 @@ named snaps d = list_any (λ s. bytes_eq s.name d) snaps
 
 -- WHAT BECOMES OF THE JOURNAL, OF THE SESSION'S OWN CHANGES AND ITS DEPTH
 
+-- its changes wait or are gone, they are committed at once or at its COMMIT, or the journal gets a cut, a drop or a revert
 pub data History (st : Plain) (k : ℕ) (work : List Change) (depth : ℕ) (journal : List Entry) : Type 0 where
   Waits : journal ≡ st.journal → work ≡ (session st k).work → (depth ≡ 0 → (session st k).depth ≡ 0) → History st k work depth journal
   Ends : journal ≡ st.journal → work ≡ [] → History st k work depth journal
   Adds : (stmt : Stmt) → stmt_of st k ≡ Some stmt → Writes st k stmt → shape stmt (see st k) ≡ None → ((session st k).depth ≡ 0 → ⊥) → depth ≡ (session st k).depth → journal ≡ st.journal →
-    work ≡ (session st k).work ++ (change_and_reply stmt (see st k)).0 → History st k work depth journal
+      work ≡ (session st k).work ++ (change_and_reply stmt (see st k)).0 → History st k work depth journal
   Puts : (stmt : Stmt) → stmt_of st k ≡ Some stmt → Under st k stmt → shape stmt (see st k) ≡ None → (session st k).depth ≡ 0 → work ≡ (session st k).work →
-    journal ≡ Committed k (change_and_reply stmt (see st k)).0 ∷ st.journal → History st k work depth journal
+      journal ≡ Committed k (change_and_reply stmt (see st k)).0 ∷ st.journal → History st k work depth journal
   Commits : journal ≡ Committed k (session st k).work ∷ st.journal → work ≡ [] → depth ≡ 0 → History st k work depth journal
   CutsOff : (snap : List ℕ) → journal ≡ Cut snap ∷ st.journal → work ≡ (session st k).work → depth ≡ (session st k).depth → History st k work depth journal
   Drops : (snap : List ℕ) → journal ≡ Dropped snap ∷ st.journal → work ≡ (session st k).work → depth ≡ (session st k).depth → History st k work depth journal
@@ -77,6 +65,7 @@ no_tables st k o says off stmt e = let same : o ≡ stmt = cc in subst (λ (x : 
 
 -- THE EFFECT OF A REPLY
 
+-- what the effect of a reply leaves, before its statement ends
 pub record Effected (st : Plain) (k : ℕ) (st' : Plain) : Type 0 where
   pub t : Session
   pub sessions : st'.sessions ≡ set st.sessions (k - 1) t

@@ -1,11 +1,11 @@
 -- No SELECT in a snapshot takes a lock or is refused for one.
-use Rattle.std.proofs.Common.{◌≡◌, ◌≢◌, ◌+◌, ℕ, Bool, true, false, ◌&&◌, ◌||◌, not, nat_eq, cond, List, [], ◌∷◌, ◌++◌, map, refl, ap, sym, ◌∙◌, subst, inl, inr, ◌⊎◌, eq-eqb}
+use Rattle.std.proofs.Common.{◌≡◌, ◌≢◌, ◌+◌, ℕ, Bool, true, false, ◌||◌, not, cond, List, [], ◌∷◌, map, refl, ap, sym, ◌∙◌, subst, inl, inr, ◌⊎◌, eq-eqb}
 use Rattle.std.specs.Prelude.{Option, Some, None, ◌==◌, find, is_some, option_map}
 use Rattle.std.specs.List.{list_any}
 use Rattle.std.specs.Str.{bytes_eq}
 use Rattle.std.specs.declared.result.Result.{Result}
 use Rattle.std.specs.declared.result.Result.TheVariants as result
-use Rattle.std.proofs.lemmas.Bool.{cases_Bool, and_parts, or_parts, or_from, cond-false}
+use Rattle.std.proofs.lemmas.Bool.{cases_Bool, and_parts, or_parts, or_from}
 use Rattle.page_base.specs.declared.value.Value.{Value}
 use Rattle.page_base.specs.declared.column.Column.{Column}
 use Rattle.plain_model.specs.declared.stmt.Stmt.{Stmt}
@@ -21,27 +21,27 @@ use Rattle.plain_model.specs.declared.event.Event.TheVariants.{Locked, Said}
 use Rattle.plain_model.specs.declared.reply.Message.{Message}
 use Rattle.plain_model.specs.declared.reply.Reply.{Reply}
 use Rattle.plain_model.specs.declared.reply.Reply.TheVariants.{Ok, Count, Rows, Msg}
-use Rattle.plain_model.specs.declared.reply.TheConstants.Message.{LOCKED, NO_TABLE, NO_COLUMN, TYPE_CLASH, OVERFLOW, SUSPECT, NOT_BUILT}
-use Rattle.plain_model.specs.Messages.{plain, at_place, first_that}
-use Rattle.plain_model.specs.Meaning.{shape, change_and_reply}
-use Rattle.plain_model.specs.Statements.{shape_over, needs, selected}
+use Rattle.plain_model.specs.declared.reply.TheConstants.Message.{LOCKED, NO_TABLE, NO_COLUMN, TYPE_CLASH, SUSPECT, NOT_BUILT}
+use Rattle.plain_model.specs.Messages.{plain, first_that}
+use Rattle.plain_model.specs.Meaning.{shape}
+use Rattle.plain_model.specs.Statements.{shape_over, selected}
 use Rattle.plain_model.specs.Shapes.{select_fault, are_lost, are_ill, is_lost_filter, is_ill_filter}
 use Rattle.plain_model.specs.Names.{is_unknown}
 use Rattle.plain_model.specs.Outcomes.{Outcome, Refused, Passed, Taken, after_row, taken_from, all_of, or_overflow, keeps, behind}
 use Rattle.plain_model.specs.Selecting.{shown, shown_of, selected_row, rows_reply}
 use Rattle.plain_model.specs.Totals.{argument, summed_row, aggregates_from, totals_row, totals_reply}
-use Rattle.plain_model.specs.Tables.{Table, Tables, rows_of}
+use Rattle.plain_model.specs.Tables.{Table, rows_of}
 use Rattle.plain_model.specs.Journal.{Opening, OpenedSnap}
-use Rattle.plain_model.specs.State.{Plain, Snap, session, stmt_of, see, copy, start, master, is_source, is_snap, is_suspect, opened_snap}
-use Rattle.plain_model.specs.Next.{Next, Replies, Wants, Cuts, Restores, Silent, unless, unless_shape, under, answers, is_built, next_of, next_select}
+use Rattle.plain_model.specs.State.{Plain, Snap, session, stmt_of, copy, start, master, is_source, is_snap, is_suspect, opened_snap}
+use Rattle.plain_model.specs.Next.{Next, Replies, Wants, Cuts, Restores, Silent, unless, unless_shape, answers, is_built, next_of, next_select}
 use Rattle.plain_model.specs.Free.{IsFree, NoMemory, NoMemoryToCommit, NoMemoryToCut, NoMemoryToRestore, NoFrame, DataFailed, LogFailed, RevertNotLogged, NoRoom, FileFailed, FileNotRemoved, NameTaken}
-use Rattle.plain_model.specs.Legal.{Legal, LegalFrom, MayCome, after, end}
+use Rattle.plain_model.specs.Legal.{Legal, MayCome, after, end}
 use Rattle.plain_model.specs.Unlocked.{IsOpening, IsUnlocked, AreUnlocked, reads_snap, is_select}
 use Rattle.plain_steps.proofs.SplitLemmas.{legal_before, legal_behind, along}
 use Rattle.plain_steps.proofs.LockLemmas.{same_bytes}
 use Rattle.plain_steps.proofs.GainLemmas.{gains}
 use Rattle.plain_steps.proofs.StepLemmas.{named}
-use Rattle.plain_steps.proofs.EventLemmas.{who_of, step}
+use Rattle.plain_steps.proofs.EventLemmas.{step}
 
 -- NO SNAPSHOT HAS THE SOURCE'S NAME
 
