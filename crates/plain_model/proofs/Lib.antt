@@ -1,2 +1,3 @@
 mod ReplyLemmas
 mod LockLemmas
+pub mod OrderLemmas

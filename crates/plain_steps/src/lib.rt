@@ -3,7 +3,4 @@
 
 mod law;
 
-pub use law::{
-    histories_keep_tables, orders_know_no_stranger, snapshots_are_read_without_locks,
-    transactions_are_alone,
-};
+pub use law::orders_know_no_stranger;

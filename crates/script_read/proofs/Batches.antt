@@ -1,5 +1,5 @@
 -- What a batch among lines says, and what its refusal is.
-use Rattle.std.proofs.Common.{◌≡◌, ℕ, suc, ◌+◌, ◌-◌, ◌<◌, ◌≤◌, Bool, true, false, cond, List, [], ◌∷◌, ◌++◌, length, arith, ap, sym, ◌∙◌, refl, inl, inr, ◌⊎◌, subst, add-zero, Option}
+use Rattle.std.proofs.Common.{◌≡◌, ℕ, suc, zero, ◌+◌, ◌-◌, ◌<◌, ◌≤◌, Bool, true, false, cond, List, [], ◌∷◌, ◌++◌, length, arith, ap, sym, ◌∙◌, refl, inl, inr, ◌⊎◌, subst, add-zero, Option}
 use Rattle.std.specs.Prelude.{Some, None, ◌&&◌, nat_le, map}
 use Rattle.std.specs.List.{list_all}
 use Rattle.std.proofs.lemmas.Bool.{leb-true, leb-false}
@@ -14,6 +14,8 @@ use Rattle.std.proofs.lemmas.List.{length-map}
 use Rattle.sql_read.proofs.BareLemmas.{one_reading}
 use Rattle.sql_read.proofs.BatchLemmas.{one_place}
 use Rattle.sql_read.proofs.PlaceLemmas.{one_stmt_place}
+use Rattle.sql_read.proofs.EachLemmas.{each_place, first_place}
+use Rattle.sql_read.specs.StmtPlace.{IsStmtPlace}
 use Rattle.script_read.specs.declared.refusal.Why.{Why}
 use Rattle.script_read.specs.declared.refusal.Why.TheVariants as why
 use Rattle.script_read.specs.declared.refusal.ScriptRefusal.{ScriptRefusal}
@@ -298,3 +300,9 @@ taken_read bytes line bad past said number next count old new stmts h says e p r
       few = omega (arith, e, fits);
       next_is = h.next_is;
     }
+
+-- each statement that the text of a batch says has a place
+pub text_place : (bytes : List ℕ) (stmts : List Stmt) (n : ℕ) → SaysText bytes stmts → n < length stmts → (at : ℕ) × IsStmtPlace bytes n at
+text_place bytes stmts n (inl b) lt = each_place bytes stmts n b lt
+text_place bytes stmts zero (inr r) lt = first_place bytes r.0 r.1
+text_place bytes stmts (suc n) (inr r) lt = absurd (let e = ap (λ (ss : List Stmt). length ss) r.2 in omega (arith, e, lt))

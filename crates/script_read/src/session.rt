@@ -3,6 +3,7 @@
 ghost use Rattle.std.specs.Prelude.{◌≡◌, ◌≤◌, ◌<◌, ◌+◌, ◌∷◌, [], List, ℕ, Bool, true, false, length, IfOk, IfErr, Option, MatchOption};
 ghost use Rattle.plain_model.specs.declared.stmt.Stmt.{Stmt};
 ghost use Rattle.script_read.specs.declared.refusal.ScriptRefusal.TheVariants.{Memory};
+ghost use Rattle.sql_read.specs.StmtPlace.{IsStmtPlace};
 ghost use Rattle.script_read.specs.Classes.{is_go};
 ghost use Rattle.script_read.specs.Left.{left};
 ghost use Rattle.script_read.specs.Limit.{SaysText, Begins, ends_before};
@@ -52,8 +53,9 @@ fn ends_before(at: usize, bytes: &[u8]) -> usize
     bytes.iter().take(at).filter(|byte| **byte == b'\n').count()
 }
 
-// The line on which a statement of a batch begins, by its number from 0. Only memory can lack where the batch has it.
+// The line on which a statement that a batch has begins, by its number from 0.
 fn line_of(alloc: Global, batch: &Batch, number: usize) -> Result<u32, ScriptRefusal>
+    requires there { (at : ℕ) × IsStmtPlace batch.now.bytes.now number at }
     requires counted { batch.now.line + length batch.now.bytes.now ≤ 4294967295 }
     requires begun { 1 ≤ batch.now.line }
     ensures ok { IfOk result (Begins batch.now.bytes.now batch.now.line number) }
@@ -61,7 +63,8 @@ fn line_of(alloc: Global, batch: &Batch, number: usize) -> Result<u32, ScriptRef
 {
     match statement_place(alloc, batch.bytes, number) {
         Ok(at) => Ok(batch.line + ends_before(at as usize, batch.bytes) as u32),
-        Err(_) => Err(ScriptRefusal::Memory),
+        Err(ParseRefusal::Memory) => Err(ScriptRefusal::Memory),
+        Err(ParseRefusal::Syntax { .. }) => unreachable!(),
     }
 }
 
@@ -75,6 +78,7 @@ fn past_limit(
     requires counted { batch.now.line + length batch.now.bytes.now ≤ 4294967295 }
     requires begun { 1 ≤ batch.now.line }
     requires few { said ≤ 20000 }
+    requires says { (stmts : List Stmt) × SaysText batch.now.bytes.now stmts × (length stmts ≡ count) }
     ensures ok { IfOk result (λ past. PastIn past batch.now.bytes.now batch.now.line said count) }
     ensures memory { IfErr result (λ e. e ≡ Memory) }
 {

@@ -33,4 +33,3 @@ module _ (book : List Event) (status : ℕ) (taken taken' : Option (List ℕ)) (
       → (name : List ℕ) × Rose f f' × is (Fault name) × Appends taken taken' (printed book ++ close_line name)
   tells_close is Done so fault known all seven = absurd (one_of status 0 3 4 known (λ e. omega (arith, e, seven)) (λ e. omega (arith, e, seven)) (λ e. omega (arith, e, seven)))
   tells_close is (Fault name) so fault known all seven = (name, fault tt, so, all seven)
-

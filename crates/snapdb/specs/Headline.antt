@@ -74,4 +74,3 @@ pub data Refuses (words : List (List ℕ)) (old new : Option (List ℕ)) : List 
   Usage : (IsPlay words → ⊥) → Refuses words old new usage_line
   Script : (line : ℕ) (why : Why) → IsPlay words → IsRefused old new line why → Refuses words old new (script_line line why)
   TooLong : IsPlay words → Exceeds old new → Refuses words old new long_line
-

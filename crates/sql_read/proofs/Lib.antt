@@ -1,4 +1,5 @@
 pub mod BatchLemmas
 pub mod BareLemmas
 pub mod PlaceLemmas
+pub mod EachLemmas
 pub mod LackLemmas

@@ -38,7 +38,7 @@ stands_first : (ts : List Token) → first statement (first_of ts).kind ≡ true
 stands_first [] h = cc
 stands_first (t ∷ ts) h = record { next = t; others = ts; split = refl; begins_one = h }
 
-stands_form : (x : Value ended) (us rest : List Token) → IsForm strict ended x us → Stands (us ++ rest)
+pub stands_form : (x : Value ended) (us rest : List Token) → IsForm strict ended x us → Stands (us ++ rest)
 stands_form x [] rest h = absurd (solid_not (none_needed strict ended batch_plain.0 x [] refl h))
   where
     solid_not : true ≡ false → ⊥

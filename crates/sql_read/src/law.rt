@@ -1,7 +1,7 @@
 //! What the grammar promises of batches, as functions whose contracts say it.
 
 ghost use Rattle.std.specs.Prelude.{ℕ, List};
-ghost use Rattle.sql_read.specs.Laws.{HasOneReading, HasOnePlace, HasOneStmtPlace, HasOneLack};
+ghost use Rattle.sql_read.specs.Laws.{HasOneReading, HasOnePlace, HasOneStmtPlace, HasEachPlace, HasOneLack};
 
 /// A batch has one list of statements, wherever the parts of their expressions lie in memory.
 pub fn batches_have_one_reading()
@@ -16,6 +16,11 @@ pub fn refusals_have_one_place()
 /// A statement has one place.
 pub fn statements_have_one_place()
     ensures { (bytes : List ℕ) (n : ℕ) → HasOneStmtPlace bytes n }
+{}
+
+/// Each statement of a batch has a place.
+pub fn statements_have_places()
+    ensures { (bytes : List ℕ) → HasEachPlace bytes }
 {}
 
 /// Statements that a batch lacks are missing at one place.

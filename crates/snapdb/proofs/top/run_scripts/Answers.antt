@@ -6,6 +6,8 @@ use Rattle.early_engine.specs.Safe.{Disk}
 use Rattle.early_engine.specs.Schedules.{Plays}
 use Rattle.plain_model.specs.declared.pick.Pick.{Pick}
 use Rattle.early_engine.proofs.CallerLemmas.{goes_further}
+use Rattle.plain_model.specs.Order.{closers, order, steps}
+use Rattle.plain_model.proofs.OrderLemmas.{orders_known}
 use Rattle.snapdb.proofs.top.run_scripts.Goals as goal
 
 pub returns-in-Ok-clause-failed : goal.returns-in-Ok-clause-failed
@@ -16,6 +18,10 @@ returns-in-Ok-clause-failed g c = λ h.
     let first = ap (λ (d : Disk). d.failures) c.in-Ok.ensures.disk in
     let last = c.close.ensures.failures in
     omega (arith, rose, first, last)
+
+pub returns-in-Ok-clause-known : goal.returns-in-Ok-clause-known
+returns-in-Ok-clause-known g c =
+    orders_known c.in-Ok.work.scripts c.in-Ok.work.picks c.close.result.book (ap closers c.close.ensures.book ∙ c.finish.ensures.order ∙ c.run.ensures.order ∙ c.in-Ok.ensures.order _ ∙ ap (order (steps _)) c.as_slice.ensures)
 
 pub returns-in-Ok-clause-run : goal.returns-in-Ok-clause-run
 returns-in-Ok-clause-run g c = record {
