@@ -3,4 +3,7 @@
 
 mod law;
 
-pub use law::orders_know_no_stranger;
+pub use law::{
+    histories_keep_tables, orders_know_no_stranger, snapshots_are_read_without_locks,
+    transactions_are_alone,
+};

@@ -1,0 +1,16 @@
+pub mod SplitLemmas
+pub mod LockLemmas
+pub mod ComingLemmas
+pub mod StillLemmas
+pub mod GainLemmas
+pub mod ApplyLemmas
+pub mod StepLemmas
+pub mod EventLemmas
+pub mod HoldLemmas
+pub mod SaneLemmas
+pub mod UnlockedLemmas
+pub mod SteadyLemmas
+pub mod AloneLemmas
+pub mod RowLemmas
+pub mod GoodLemmas
+pub mod KeepLemmas
