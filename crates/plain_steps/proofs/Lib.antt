@@ -14,3 +14,5 @@ pub mod AloneLemmas
 pub mod RowLemmas
 pub mod GoodLemmas
 pub mod KeepLemmas
+pub mod ReplyLemmas
+pub mod FreedLemmas
