@@ -2,6 +2,7 @@
 use Rattle.std.specs.Prelude.{◌≡◌, ◌+◌, ◌==◌, ◌&&◌, ◌||◌, ℕ, Bool, not, nat_lt, nat_le, if◌then◌else◌, List, [], ◌∷◌, length, take, drop, slice_index, Option, Some, None, Result, Ok, Err}
 use Rattle.std.specs.List.{list_all}
 use Rattle.std.specs.Char.{is_ascii_digit, to_ascii_lowercase}
+use Rattle.page_base.specs.declared.limits.TheConstants.{MAX_SLOTS, MAX_SLOT_BYTES}
 use Rattle.page_base.specs.declared.numbers.PageId.{PageId}
 use Rattle.page_base.specs.Name.{is_name_byte}
 use Rattle.page_base.specs.Reading.{Read, ◌>>=◌, times_at}
@@ -38,11 +39,11 @@ address_at bytes = if nat_lt (length bytes) 5 then Err bytes else Ok (record { f
 
 -- which slot it is of, below 4,048
 unfoldable pub slot_at : List ℕ → Read ℕ
-slot_at bytes = if nat_lt (length bytes) 2 || nat_le 4048 (number_in 2 bytes) then Err bytes else Ok (number_in 2 bytes, drop 2 bytes)
+slot_at bytes = if nat_lt (length bytes) 2 || nat_le MAX_SLOTS (number_in 2 bytes) then Err bytes else Ok (number_in 2 bytes, drop 2 bytes)
 
 -- the text of this length behind two bytes
 abbrev pub text_of : ℕ → List ℕ → Read (List ℕ)
-text_of n bytes = if nat_lt 8094 n || nat_lt (length bytes) (2 + n) then Err bytes else Ok (take n (drop 2 bytes), drop n (drop 2 bytes))
+text_of n bytes = if nat_lt MAX_SLOT_BYTES n || nat_lt (length bytes) (2 + n) then Err bytes else Ok (take n (drop 2 bytes), drop n (drop 2 bytes))
 
 -- a text and its length
 unfoldable pub text_at : List ℕ → Read (List ℕ)

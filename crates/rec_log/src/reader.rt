@@ -1,6 +1,7 @@
 //! The fields of the log, read from the front of bytes; a reader stands at the first byte that isn't read yet.
 
 ghost use Rattle.std.specs.Prelude.{◌≡◌, ◌<◌, ◌≤◌, ◌↔◌, [], length, IsTrue, IfOk};
+ghost use Rattle.page_base.specs.declared.limits.TheConstants.{MAX_SLOTS, MAX_SLOT_BYTES};
 ghost use Rattle.rec_log.specs.Reading.{Gives, kind_at, count_at, address_at, slot_at, text_at, record_at, low_name, name_at, entry_at};
 ghost use Rattle.page_base.specs.Reading.{times_at};
 ghost use Rattle.rec_log.specs.Records.{WorkOf};
@@ -127,7 +128,7 @@ impl<'a> Reader<'a> {
     #[tactic(auto, unfolding(crate::specs::Reading::slot_at, crate::specs::Numbers::number_in))]
     fn slot(&mut self) -> Result<u16, Stop>
         ensures read { Gives (λ n. n) result self.new (slot_at self.old) }
-        ensures limit { IfOk result (λ slot. slot < 4048) }
+        ensures limit { IfOk result (λ slot. slot < MAX_SLOTS) }
     {
         if self.rest.len() < 2 {
             return Err(Stop::Form);
@@ -143,7 +144,7 @@ impl<'a> Reader<'a> {
     #[tactic(auto, unfolding(crate::specs::Reading::text_at, crate::specs::Numbers::number_in))]
     fn text(&mut self, alloc: Global) -> Result<Bytes, Stop>
         ensures read { Gives (λ b. b) result self.new (text_at self.old) }
-        ensures limit { IfOk result (λ text. length text ≤ 8094) }
+        ensures limit { IfOk result (λ text. length text ≤ MAX_SLOT_BYTES) }
     {
         if self.rest.len() < 2 {
             return Err(Stop::Form);

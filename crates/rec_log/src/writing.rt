@@ -4,6 +4,7 @@ ghost use Rattle.std.specs.Prelude.{◌≡◌, ◌++◌, ◌∷◌, [], ◌<◌,
 ghost use Rattle.std.specs.List.{concat, flat_map, AllByRecursion};
 ghost use Rattle.rec_log.specs.Numbers.{number};
 ghost use Rattle.rec_log.specs.Entries.{Commit, Revert, IsLogged, IsEntry, address, sized, record_fields, entry_bytes};
+ghost use Rattle.page_base.specs.declared.limits.TheConstants.{MAX_SLOT_BYTES};
 
 use crate::{Rec, Work};
 use byteorder::{ByteOrder, LittleEndian};
@@ -49,7 +50,7 @@ fn put_address(out: &mut Vec<u8>, page: PageId) -> Result<(), NoMemory>
 }
 
 fn put_text(out: &mut Vec<u8>, text: &[u8]) -> Result<(), NoMemory>
-    requires { length text.now ≤ 8094 }
+    requires { length text.now ≤ MAX_SLOT_BYTES }
     ensures { OnOk result (out.new.items ≡ out.old.items ++ sized text.now) }
 {
     put_u16(out, text.len() as u16)?;

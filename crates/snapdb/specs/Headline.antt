@@ -16,11 +16,14 @@ use Rattle.script_read.specs.declared.refusal.Why.{Why}
 use Rattle.script_read.specs.Words.{text_of}
 use Rattle.script_read.specs.Script.{IsScript}
 use Rattle.script_read.specs.Refusal.{IsRefusedAt}
-use Rattle.snapdb.specs.declared.stream.TheConstants.{LIMIT}
 
 -- the words of the one command
 abbrev pub IsPlay : List (List ℕ) → Type 0
 IsPlay words = words ≡ codes "play" ∷ []
+
+-- how many bytes a script has at most
+abbrev pub most_bytes : ℕ
+most_bytes = 16777216
 
 -- the bytes were read, from what was left to what is left
 abbrev pub Reads : Option (List ℕ) → Option (List ℕ) → List ℕ → Type 0
@@ -43,16 +46,16 @@ pub record IsHistory (told : Bool) (names : List (List ℕ)) (bytes : List ℕ) 
 
 -- a whole script of no more bytes than one may have was read, and the book is its history
 abbrev pub Tells : Bool → List (List ℕ) → Option (List ℕ) → Option (List ℕ) → List Event → Type 0
-Tells told names old new book = (bytes : List ℕ) × Reads old new bytes × (length bytes ≤ LIMIT) × IsHistory told names bytes book
+Tells told names old new book = (bytes : List ℕ) × Reads old new bytes × (length bytes ≤ most_bytes) × IsHistory told names bytes book
 
 -- more bytes than a script may have were taken
 abbrev pub Exceeds : Option (List ℕ) → Option (List ℕ) → Type 0
-Exceeds old new = (bytes : List ℕ) × Consumes old new bytes × (LIMIT < length bytes)
+Exceeds old new = (bytes : List ℕ) × Consumes old new bytes × (most_bytes < length bytes)
 
 -- all bytes were read, are no more than a script may have, and this line is the first that is refused, so that they are
 -- no script
 abbrev pub IsRefused : Option (List ℕ) → Option (List ℕ) → ℕ → Why → Type 0
-IsRefused old new line why = (bytes : List ℕ) × Reads old new bytes × (length bytes ≤ LIMIT) × IsRefusedAt bytes line why
+IsRefused old new line why = (bytes : List ℕ) × Reads old new bytes × (length bytes ≤ most_bytes) × IsRefusedAt bytes line why
 
 abbrev pub usage_line : List ℕ
 usage_line = codes "refused: usage\n"

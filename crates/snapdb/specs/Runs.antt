@@ -8,8 +8,7 @@ use Rattle.early_engine.specs.Opened.{names_of}
 use Rattle.early_engine.specs.Safe.{Disk}
 use Rattle.early_engine.specs.Played.{IsRun}
 use Rattle.script_read.specs.Script.{IsScript}
-use Rattle.snapdb.specs.declared.stream.TheConstants.{LIMIT}
-use Rattle.snapdb.specs.Headline.{Reads, fresh}
+use Rattle.snapdb.specs.Headline.{Reads, most_bytes, fresh}
 
 -- the scripts were run over a new source of 256 pages
 abbrev pub HaveRun : List (List Stmt) → List Pick → Disk → Disk → List Event → CloseEnd → Type 0
@@ -21,6 +20,6 @@ pub record Runs (before after : Disk) (old new : Option (List ℕ)) (book : List
   pub scripts : List (List Stmt)
   pub picks : List Pick
   pub reads : Reads old new bytes
-  pub short : length bytes ≤ LIMIT
+  pub short : length bytes ≤ most_bytes
   pub script : IsScript bytes scripts picks
   pub run : HaveRun scripts picks before after book end

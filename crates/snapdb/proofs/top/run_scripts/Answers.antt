@@ -21,7 +21,7 @@ returns-in-Ok-clause-failed g c = λ h.
 
 pub returns-in-Ok-clause-known : goal.returns-in-Ok-clause-known
 returns-in-Ok-clause-known g c =
-    orders_known c.in-Ok.work.scripts c.in-Ok.work.picks c.close.result.book (ap closers c.close.ensures.book ∙ c.finish.ensures.order ∙ c.run.ensures.order ∙ c.in-Ok.ensures.order _ ∙ ap (order (steps _)) c.as_slice.ensures)
+    orders_known c.args.work.scripts c.args.work.picks c.close.result.book (ap closers c.close.ensures.book ∙ c.finish.ensures.order ∙ c.run.ensures.order ∙ c.in-Ok.ensures.order c.as_slice.result.now ∙ ap (order (steps c.args.work.scripts)) c.as_slice.ensures)
 
 pub returns-in-Ok-clause-run : goal.returns-in-Ok-clause-run
 returns-in-Ok-clause-run g c = record {
