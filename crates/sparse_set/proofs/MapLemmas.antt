@@ -7,11 +7,11 @@ use Rattle.page_base.specs.Pages.{Pages, HasPage, page_or, with_page, shape, fil
 use Rattle.page_base.proofs.PagesLemmas.{file_there}
 use Rattle.sparse_set.specs.Groups.{groups_in, marked_in}
 use Rattle.sparse_set.proofs.WordLemmas.{same_at}
-use Rattle.sparse_set.specs.Sparse.{Sparse, is_copied, size_on_disk}
+use Rattle.sparse_set.specs.Sparse.{Sparse, HasSparse, is_copied, size_on_disk}
 
--- a page within the count of its file is there
-pub has_page : {X : Type 0} (pages : Pages X) (p : PageId) → p.page < get_or (shape pages) p.file 0 → HasPage pages p
-has_page pages p h = subst (λ n. p.page < n) (get_or-map length pages p.file []) h
+-- a page within its file's count has a place in the map
+pub has_place : (set : Sparse) (p : PageId) → set.files.counts ≡ shape set.map → HasSparse set p → HasPage set.map p
+has_place set p same h = subst (λ n. p.page < n) (ap (λ ns. get_or ns p.file 0) same ∙ get_or-map length set.map p.file []) h
 
 file_of_filled : {X : Type 0} (counts : List ℕ) (file page : ℕ) (x : X) → get_or (get_or (filled counts x) file []) page x ≡ x
 file_of_filled [] file page x = refl
