@@ -5,7 +5,7 @@ use Rattle.lru.proofs.CallerLemmas.{Contains-lookup_entry}
 use Rattle.lru.proofs.Splits.{Contains-head, Contains-tail}
 use Rattle.std.specs.List.{Contains, IsDistinct}
 use Rattle.std.proofs.lemmas.Map.Views.{lookup-from_Contains}
-use Rattle.std.proofs.Common.{◌≡◌, ◌+◌, arith, true, false, cond, Bool, List, [], ◌∷◌, ◌++◌, Option, None, Some, is_some, option_map, refl, sym, ap, ◌∙◌, length}
+use Rattle.std.proofs.Common.{◌==◌, ◌&&◌, ◌≡◌, ◌+◌, arith, true, false, cond, Bool, List, [], ◌∷◌, ◌++◌, Option, None, Some, is_some, option_map, refl, sym, ap, ◌∙◌, length}
 use Rattle.std.specs.Option.{option_map_or}
 use Rattle.std.specs.Map.{lookup, lookup_entry, keys_of, remove_entry}
 use Rattle.lru.specs.LruCache.{promoted}
@@ -15,7 +15,7 @@ use Rattle.page_base.specs.Pages.{is_page}
 use Rattle.page_base.proofs.PagesLemmas.{is_page-true}
 use Rattle.buf_pool.specs.declared.frame.Frame.{Frame}
 use Rattle.buf_pool.specs.Pool.{Pooled}
-use Rattle.buf_pool.specs.Order.{without, is_unpinned, IsUnpinned, last_unpinned}
+use Rattle.buf_pool.specs.Order.{is_waiting, last_waiting, IsUnsaved, without, is_unpinned, IsUnpinned, last_unpinned}
 use Rattle.buf_pool.proofs.FrameLemmas.{by_bool, is_page-equivalence, no}
 
 shuffle : {X : Type 0} (a b : Bool) (x y r l : X) → cond a x r ≡ l → (a ≡ true → b ≡ true → ⊥) → cond a x (cond b y r) ≡ cond b y l
@@ -49,11 +49,30 @@ last_unpinned_push es e = ap (λ (l : List (PageId × Frame)). option_map (λ (x
     (λ t. ap (λ b. option_map (λ (x : PageId × Frame). x.0) (cond b (Some e) (find is_unpinned (reverse es)))) t ∙ sym (ap (λ b. cond b (Some e.0) (last_unpinned es)) t))
     (λ n. ap (λ b. option_map (λ (x : PageId × Frame). x.0) (cond b (Some e) (find is_unpinned (reverse es)))) n ∙ sym (ap (λ b. cond b (Some e.0) (last_unpinned es)) n))
 
+-- the last page that may be written, where one more stands behind others
+pub last_waiting_push : (es : List (PageId × Frame)) (e : PageId × Frame) → last_waiting (es ++ e ∷ []) ≡ cond (is_waiting e) (Some e.0) (last_waiting es)
+last_waiting_push es e = ap (λ (l : List (PageId × Frame)). option_map (λ (x : PageId × Frame). x.0) (find is_waiting l)) (reverse-append es (e ∷ [])) ∙ by_bool (is_waiting e)
+    (λ t. ap (λ b. option_map (λ (x : PageId × Frame). x.0) (cond b (Some e) (find is_waiting (reverse es)))) t ∙ sym (ap (λ b. cond b (Some e.0) (last_waiting es)) t))
+    (λ n. ap (λ b. option_map (λ (x : PageId × Frame). x.0) (cond b (Some e) (find is_waiting (reverse es)))) n ∙ sym (ap (λ b. cond b (Some e.0) (last_waiting es)) n))
+
 -- an entry that isn't pinned is that of its page
 pub unpinned_entry : (v : Pooled) (q : PageId) (f : Frame) → IsDistinct is_page (keys_of v.entries) → Contains v.entries (q, f) → f.pins ≡ 0 → IsUnpinned v q
 unpinned_entry v q f distinct among none = let at = lookup-from_Contains is_page-equivalence q f v.entries distinct among in record {
   there = ap is_some at;
   none = ap (λ o. option_map_or (λ (x : Frame). x.pins) o 0) at ∙ none;
+}
+
+-- a page that may be written is dirty
+dirty_if_waiting : (e : PageId × Frame) → is_waiting e ≡ true → e.1.dirty ≡ true
+dirty_if_waiting e h = by_bool (e.1.pins == 0)
+    (λ t. sym (ap (λ b. b && e.1.dirty) t) ∙ h)
+    (λ n. no (sym h ∙ ap (λ b. b && e.1.dirty) n))
+
+-- and its entry is that of the page
+pub unsaved_entry : (v : Pooled) (q : PageId) (f : Frame) → IsDistinct is_page (keys_of v.entries) → Contains v.entries (q, f) → is_waiting (q, f) ≡ true → IsUnsaved v q
+unsaved_entry v q f distinct among waits = let at = lookup-from_Contains is_page-equivalence q f v.entries distinct among in record {
+  there = ap is_some at;
+  dirty = ap (λ o. option_map_or (λ (x : Frame). x.dirty) o false) at ∙ dirty_if_waiting (q, f) waits;
 }
 
 pub Contains-last : (es : List (PageId × Frame)) (e : PageId × Frame) → Contains (es ++ e ∷ []) e

@@ -1,11 +1,11 @@
 -- The pages in memory in the order of their use, and which one gives way.
-use Rattle.std.specs.Prelude.{◌≡◌, ◌==◌, ◌&&◌, Bool, if◌then◌else◌, List, [], ◌∷◌, length, reverse, find, Option, is_some, option_map}
+use Rattle.std.specs.Prelude.{◌≡◌, ◌==◌, ◌&&◌, Bool, true, if◌then◌else◌, List, [], ◌∷◌, length, reverse, find, Option, is_some, option_map}
 use Rattle.std.specs.Option.{option_map_or}
 use Rattle.std.specs.Map.{keys_of}
 use Rattle.page_base.specs.declared.numbers.PageId.{PageId}
 use Rattle.page_base.specs.Pages.{is_page}
 use Rattle.buf_pool.specs.declared.frame.Frame.{Frame}
-use Rattle.buf_pool.specs.Pool.{Pooled, IsPooled, frame_of, pins}
+use Rattle.buf_pool.specs.Pool.{Pooled, IsPooled, frame_of, pins, is_dirty}
 
 -- the pages in memory, the most recently used first
 abbrev pub order : Pooled → List PageId
@@ -41,10 +41,19 @@ room_made v = if length v.entries == v.frames then option_map_or (λ q. without 
 abbrev pub order_used : Pooled → PageId → List PageId
 order_used v p = p ∷ (if is_some (frame_of v p) then without p (order v) else room_made v)
 
--- whether this page may be written: it is dirty, and isn't pinned
+-- whether this page may be written: it isn't pinned, and is dirty
 abbrev pub is_waiting : PageId × Frame → Bool
 is_waiting e = e.1.pins == 0 && e.1.dirty
 
+-- the last page of some that may be written
+abbrev pub last_waiting : List (PageId × Frame) → Option PageId
+last_waiting es = option_map (λ (e : PageId × Frame). e.0) (find is_waiting (reverse es))
+
 -- the least recently used page that may be written
-abbrev pub last_waiting : Pooled → Option PageId
-last_waiting v = option_map (λ (e : PageId × Frame). e.0) (find is_waiting (reverse v.entries))
+abbrev pub waiting : Pooled → Option PageId
+waiting v = last_waiting v.entries
+
+-- the page is in memory, and is dirty
+pub record IsUnsaved (v : Pooled) (p : PageId) : Type 0 where
+  pub there : IsPooled v p
+  pub dirty : is_dirty v p ≡ true

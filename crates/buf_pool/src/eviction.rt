@@ -1,7 +1,8 @@
 //! Where no frame is free, the least recently used page that isn't pinned gives its own, once its file has it.
 
-ghost use Rattle.std.specs.Prelude.{◌≡◌, ◌<◌, ◌+◌, true, false, IsTrue, IfSome, IfErr, OnOk, length};
-ghost use Rattle.page_base.specs.Pages.{image_at};
+ghost use Rattle.std.specs.Prelude.{◌≡◌, ◌<◌, ◌+◌, true, false, IsTrue, IfSome, IfOk, IfErr, OnOk, length};
+ghost use Rattle.page_base.specs.Pages.{image_at, is_page};
+ghost use Rattle.page_base.specs.declared.numbers.PageId.{PageId};
 ghost use Rattle.page_dev.specs.Faults.{HasCause, total};
 ghost use Rattle.buf_pool.specs.Pool.{img, pins, is_dirty, IsPooled};
 ghost use Rattle.buf_pool.specs.Order.{order, victim, without, room_made, IsUnpinned};
@@ -63,6 +64,7 @@ impl<P: PageFile> Pool<P> {
         ensures stays { Stays self.old self.new }
         ensures order { order self.new ≡ order self.old }
         ensures clean { is_dirty self.new p ≡ false }
+        ensures others { (q : PageId) → is_page p q ≡ false → is_dirty self.new q ≡ is_dirty self.old q }
         ensures pooled { IsPooled self.new p }
         ensures size { length self.new.entries ≡ length self.old.entries }
         ensures files { self.new.files ≡ self.old.files }
@@ -71,8 +73,28 @@ impl<P: PageFile> Pool<P> {
         frame.dirty = false;
     }
 
-    // Writes a page to its file where it is dirty.
+    // Writes a page to its file where it is dirty, and answers whether it was.
     #[tactic(auto, using(crate::proofs::StepLemmas::stays_trans, crate::proofs::StepLemmas::stays_self))]
+    pub(crate) fn save(&mut self, p: PageId) -> Result<bool, Failed>
+        requires { IsPooled self.old p }
+        ensures stays { Stays self.old self.new }
+        ensures order { order self.new ≡ order self.old }
+        ensures clean { OnOk result (is_dirty self.new p ≡ false) }
+        ensures wrote { IfOk result (λ written. written ≡ is_dirty self.old p) }
+        ensures others { (q : PageId) → is_page p q ≡ false → is_dirty self.new q ≡ is_dirty self.old q }
+        ensures pooled { IsPooled self.new p }
+        ensures size { length self.new.entries ≡ length self.old.entries }
+        ensures cause { HasCause (total self.old.files.failures) (total self.new.files.failures) result }
+    {
+        if !self.frames.peek(&p).unwrap().dirty {
+            return Ok(false);
+        }
+        self.write(p)?;
+        self.set_clean(p);
+        Ok(true)
+    }
+
+    // Makes a page clean before it gives way.
     fn clean(&mut self, p: PageId) -> Result<(), FetchRefusal>
         requires { IsPooled self.old p }
         ensures stays { Stays self.old self.new }
@@ -82,15 +104,11 @@ impl<P: PageFile> Pool<P> {
         ensures size { length self.new.entries ≡ length self.old.entries }
         ensures faulty { IfErr result (IsFault self.old self.new) }
     {
-        if !self.frames.peek(&p).unwrap().dirty {
-            return Ok(());
-        }
-        if self.write(p).is_err() {
+        if self.save(p).is_err() {
             return Err(FetchRefusal::DataFault {
                 count: self.files.all_faults(),
             });
         }
-        self.set_clean(p);
         Ok(())
     }
 

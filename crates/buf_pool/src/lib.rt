@@ -4,6 +4,7 @@
 mod editing;
 mod eviction;
 mod fetching;
+mod flushing;
 mod frame;
 mod pins;
 mod pool;

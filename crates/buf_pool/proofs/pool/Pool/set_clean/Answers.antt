@@ -1,15 +1,15 @@
 -- One frame is clean.
-use Rattle.std.proofs.Common.{◌≡◌, length, Some, is_some, subst, false, refl, sym, ap, ◌∙◌}
+use Rattle.std.proofs.Common.{cond, ◌≡◌, length, Some, is_some, subst, false, refl, sym, ap, ◌∙◌}
 use Rattle.std.specs.Option.{option_map_or, option_copied_mut}
 use Rattle.std.specs.Map.{lookup}
 use Rattle.std.proofs.lemmas.Map.{length-set_value}
 use Rattle.page_base.specs.Pages.{image_at, is_page}
 use Rattle.page_fmt.specs.Content.{IsPage}
 use Rattle.buf_pool.specs.declared.frame.Frame.{Frame}
-use Rattle.buf_pool.specs.Pool.{Pooled, img}
+use Rattle.buf_pool.specs.Pool.{Pooled, img, is_dirty}
 use Rattle.buf_pool.specs.Order.{order}
 use Rattle.buf_pool.specs.Steps.{Stays}
-use Rattle.buf_pool.proofs.WrittenLemmas.{written, sound-written, stays-written, order-written, here-written}
+use Rattle.buf_pool.proofs.WrittenLemmas.{changes-written, written, sound-written, stays-written, order-written, here-written}
 use Rattle.buf_pool.proofs.pool.Pool.set_clean.Goals as goal
 
 pub invariant_of-self : goal.invariant_of-self
@@ -57,3 +57,11 @@ returns-clause-pooled g c =
     let w : Frame = record { image = old.image; dirty = false; pins = old.pins } in
     let at : lookup (is_page c.args.p) v.entries ≡ Some old = sym c.peek_mut.ensures.value ∙ ap option_copied_mut c.unwrap-frame.ensures in
     ap is_some (here-written v c.args.p old w at)
+
+pub returns-clause-others : goal.returns-clause-others
+returns-clause-others g c q other =
+    let v : Pooled = record { files = c.self.inside.files; entries = c.self.inside.frames.entries; frames = c.self.inside.frames.cap } in
+    let old : Frame = c.unwrap-frame.result.now in
+    let w : Frame = record { image = old.image; dirty = false; pins = old.pins } in
+    let at : lookup (is_page c.args.p) v.entries ≡ Some old = sym c.peek_mut.ensures.value ∙ ap option_copied_mut c.unwrap-frame.ensures in
+    ap (λ o. option_map_or (λ (f : Frame). f.dirty) o false) (changes-written v c.args.p old w at q ∙ ap (λ b. cond b (Some w) (lookup (is_page q) v.entries)) other) ∙ ap (λ x. is_dirty x q) c.self.view_is
