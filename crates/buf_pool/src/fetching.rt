@@ -68,6 +68,7 @@ impl<P: PageFile> Pool<P> {
         requires few { pins self.old p < 2 ^ 100 }
         ensures once { PinsOnce p self.old self.new }
         ensures order { order self.new ≡ p ∷ without p (order self.old) }
+        ensures files { self.new.files ≡ self.old.files }
     {
         self.promote(p);
         self.add_pin(p);
@@ -79,6 +80,7 @@ impl<P: PageFile> Pool<P> {
         ensures stays { Stays self.old self.new }
         ensures pooled { IsPooled self.new p }
         ensures order { order self.new ≡ p ∷ without p (order self.old) }
+        ensures files { self.new.files ≡ self.old.files }
     {
         self.frames.promote(&p);
     }
@@ -102,7 +104,7 @@ impl<P: PageFile> Pool<P> {
     }
 
     /// Brings in a page, pins it once and makes it the most recently used. What every page shows is as before, and so
-    /// are all pins after a refusal, which comes exactly by its cause.
+    /// are all pins after a refusal, which comes exactly by its cause. A page in memory needs no call on a file.
     pub fn fetch(&mut self, alloc: Global, p: PageId) -> Result<(), FetchRefusal>
         requires there { p.page < slice_index self.old.files.counts p.file }
         requires few { pins self.old p < 2 ^ 100 }
@@ -110,6 +112,7 @@ impl<P: PageFile> Pool<P> {
         ensures stays { OnErr result (Stays self.old self.new) }
         ensures free { OnOk result (¬ IsStuck self.old p) }
         ensures first { OnOk result (order self.new ≡ order_used self.old p) }
+        ensures no_calls { IsPooled self.old p → self.new.files ≡ self.old.files }
         ensures refused { IfErr result (Refuses self.old self.new p) }
     {
         if self.is_pooled(p) {
