@@ -1,0 +1,4 @@
+pub mod Pool
+pub mod Order
+pub mod Steps
+pub mod Refusing
