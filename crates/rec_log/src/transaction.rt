@@ -33,6 +33,15 @@ impl Work {
         })
     }
 
+    /// No records, and no room for any. Takes no memory.
+    pub fn none(alloc: Global) -> Work
+        ensures { result ≡ record { recs = []; spare = 0 } }
+    {
+        Work {
+            recs: Vec::new(alloc),
+        }
+    }
+
     /// Makes room for at least `more` records. It fails only where that room wasn't there, and the records stay.
     pub fn reserve(&mut self, more: usize) -> Result<(), NoMemory>
         ensures recs { self.new.recs ≡ self.old.recs }

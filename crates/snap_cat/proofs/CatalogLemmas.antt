@@ -1,5 +1,5 @@
 -- What a catalog is after a snapshot came, went, or changed.
-use Rattle.std.proofs.Common.{◌≡◌, ℕ, ◌+◌, ◌<◌, ◌≤◌, ◌∷◌, [], inl, inr, ◌⊎◌, cond, List, length, get_or, ap, sym, ◌∙◌, subst, arith}
+use Rattle.std.proofs.Common.{◌≡◌, ℕ, ◌+◌, ◌<◌, ◌≤◌, ◌∷◌, ◌++◌, [], inl, inr, ◌⊎◌, cond, List, length, get_or, ap, sym, ◌∙◌, subst, arith}
 use Rattle.std.proofs.Math.ListN.{length-append}
 use Rattle.std.proofs.Math.Seq.{get_or-append_seam}
 use Rattle.std.proofs.lemmas.Bool.{cases_lt, lt-ltb, le-ltb}
@@ -10,47 +10,55 @@ use Rattle.rec_log.specs.Records.{WorkOf}
 use Rattle.snap_cat.specs.declared.snapshot.SnapState.TheVariants.{Making}
 use Rattle.snap_cat.specs.Catalog.{Snap, Catalog, no_snap, snap_at, HasSnap, IsCatalog, LacksName, with_new, without, former}
 
-module _ (cat : Catalog) (name : List ℕ) (files : List (List ℕ)) (owed : WorkOf) where
-  -- an older snapshot, and the new one
-  pub older : (k : SnapNo) → HasSnap cat k → snap_at (with_new cat name files owed) k ≡ snap_at cat k
+module _ (cat : Catalog) (s : Snap) (next : ℕ) where
+  -- the catalog with a snapshot more at the end, and another next cut
+  abbrev more : Catalog
+  more = record { snaps = cat.snaps ++ s ∷ []; next_cut = next }
+
+  older : (k : SnapNo) → HasSnap cat k → snap_at more k ≡ snap_at cat k
   older k lt = get_or_append_left cat.snaps _ no_snap k.0 lt
 
-  pub newest : (k : SnapNo) → k.0 ≡ length cat.snaps → snap_at (with_new cat name files owed) k ≡ record { name = name; files = files; cut = cat.next_cut; state = Making; owed = owed }
-  newest k e = ap (λ n. get_or (with_new cat name files owed).snaps n no_snap) e ∙ get_or-append_seam cat.snaps _ [] no_snap
+  newest : (k : SnapNo) → k.0 ≡ length cat.snaps → snap_at more k ≡ s
+  newest k e = ap (λ n. get_or more.snaps n no_snap) e ∙ get_or-append_seam cat.snaps _ [] no_snap
 
-  pub cases_new : (k : SnapNo) → HasSnap (with_new cat name files owed) k → HasSnap cat k ⊎ (k.0 ≡ length cat.snaps)
+  cases_new : (k : SnapNo) → HasSnap more k → HasSnap cat k ⊎ (k.0 ≡ length cat.snaps)
   cases_new k h =
       elim (cases_lt k.0 (length cat.snaps)) [
         | inl lt ↦ inl lt
-        | inr ge ↦ inr (omega (arith, length-append cat.snaps (record { name = name; files = files; cut = cat.next_cut; state = Making; owed = owed } ∷ [])))
+        | inr ge ↦ inr (omega (arith, length-append cat.snaps (s ∷ [])))
       ]
 
-  pub catalog_new : IsCatalog cat → length cat.snaps < 8 → LacksName cat name → IsCatalog (with_new cat name files owed)
-  catalog_new is few lacks = record {
-    few = omega (arith, length-append cat.snaps (record { name = name; files = files; cut = cat.next_cut; state = Making; owed = owed } ∷ []));
+  -- it is a catalog where the snapshot's name is new and its cut behind all others, before the next one
+  pub catalog_more : IsCatalog cat → length cat.snaps < 8 → LacksName cat s.name → ((k : SnapNo) → HasSnap cat k → (snap_at cat k).cut < s.cut) → s.cut < next → cat.next_cut ≤ next → IsCatalog more
+  catalog_more is few lacks above below further = record {
+    few = omega (arith, length-append cat.snaps (s ∷ []));
     ordered = λ j k lt h. elim (cases_new k h) [
       | inl old ↦
-          let ej : (snap_at (with_new cat name files owed) j).cut ≡ (snap_at cat j).cut = ap (λ (x : Snap). x.cut) (older j (omega arith)) in
-          let ek : (snap_at (with_new cat name files owed) k).cut ≡ (snap_at cat k).cut = ap (λ (x : Snap). x.cut) (older k old) in
+          let ej : (snap_at more j).cut ≡ (snap_at cat j).cut = ap (λ (x : Snap). x.cut) (older j (omega arith)) in
+          let ek : (snap_at more k).cut ≡ (snap_at cat k).cut = ap (λ (x : Snap). x.cut) (older k old) in
           let less : (snap_at cat j).cut < (snap_at cat k).cut = is.ordered j k lt old in
-          subst (λ n. n < (snap_at (with_new cat name files owed) k).cut) (sym ej) (subst (λ n. (snap_at cat j).cut < n) (sym ek) less)
+          subst (λ n. n < (snap_at more k).cut) (sym ej) (subst (λ n. (snap_at cat j).cut < n) (sym ek) less)
       | inr new ↦
-          let ej : (snap_at (with_new cat name files owed) j).cut ≡ (snap_at cat j).cut = ap (λ (x : Snap). x.cut) (older j (omega arith)) in
-          let ek : (snap_at (with_new cat name files owed) k).cut ≡ cat.next_cut = ap (λ (x : Snap). x.cut) (newest k new) in
-          let less : (snap_at cat j).cut < cat.next_cut = is.below j (omega arith) in
-          subst (λ n. n < (snap_at (with_new cat name files owed) k).cut) (sym ej) (subst (λ n. (snap_at cat j).cut < n) (sym ek) less)
+          let ej : (snap_at more j).cut ≡ (snap_at cat j).cut = ap (λ (x : Snap). x.cut) (older j (omega arith)) in
+          let ek : (snap_at more k).cut ≡ s.cut = ap (λ (x : Snap). x.cut) (newest k new) in
+          let less : (snap_at cat j).cut < s.cut = above j (omega arith) in
+          subst (λ n. n < (snap_at more k).cut) (sym ej) (subst (λ n. (snap_at cat j).cut < n) (sym ek) less)
     ];
     below = λ k h. elim (cases_new k h) [
       | inl old ↦
           let less : (snap_at cat k).cut < cat.next_cut = is.below k old in
-          subst (λ n. n < cat.next_cut + 1) (sym (ap (λ (x : Snap). x.cut) (older k old))) (omega arith)
-      | inr new ↦ subst (λ n. n < cat.next_cut + 1) (sym (ap (λ (x : Snap). x.cut) (newest k new))) (omega arith)
+          subst (λ n. n < next) (sym (ap (λ (x : Snap). x.cut) (older k old))) (omega (arith, less, further))
+      | inr new ↦ subst (λ n. n < next) (sym (ap (λ (x : Snap). x.cut) (newest k new))) below
     ];
     apart = λ j k lt h. elim (cases_new k h) [
       | inl old ↦ λ same. is.apart j k lt old (sym (ap (λ (x : Snap). x.name) (older j (omega arith))) ∙ same ∙ ap (λ (x : Snap). x.name) (older k old))
       | inr new ↦ λ same. lacks j (omega arith) (sym (ap (λ (x : Snap). x.name) (older j (omega arith))) ∙ same ∙ ap (λ (x : Snap). x.name) (newest k new))
     ];
   }
+
+-- a new snapshot has the next cut, and the next one is behind it
+pub catalog_new : (cat : Catalog) (name : List ℕ) (files : List (List ℕ)) (owed : WorkOf) → IsCatalog cat → length cat.snaps < 8 → LacksName cat name → IsCatalog (with_new cat name files owed)
+catalog_new cat name files owed is few lacks = catalog_more cat (record { name = name; files = files; cut = cat.next_cut; state = Making; owed = owed }) (cat.next_cut + 1) is few lacks is.below (omega arith) (omega arith)
 
 -- where a snapshot stood before another was taken out
 pub data Former (gone k : SnapNo) : Type 0 where

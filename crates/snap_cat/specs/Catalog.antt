@@ -58,6 +58,14 @@ empty next_cut = record { snaps = []; next_cut = next_cut }
 abbrev pub with_new : Catalog → List ℕ → List (List ℕ) → WorkOf → Catalog
 with_new cat name files owed = record { snaps = cat.snaps ++ record { name = name; files = files; cut = cat.next_cut; state = Making; owed = owed } ∷ []; next_cut = cat.next_cut + 1 }
 
+-- one snapshot more, of an opened catalog: with a cut and a state of its own, and owing nothing
+abbrev pub with_opened : Catalog → List ℕ → List (List ℕ) → ℕ → SnapState → Catalog
+with_opened cat name files cut state = record cat { snaps = cat.snaps ++ record { name = name; files = files; cut = cut; state = state; owed = record { recs = []; spare = 0 } } ∷ [] }
+
+-- a snapshot's cut, of all that are there, is behind those of the others
+abbrev pub IsBehind : Catalog → ℕ → Type 0
+IsBehind cat cut = (k : SnapNo) → HasSnap cat k → (snap_at cat k).cut < cut
+
 -- without one snapshot; the later ones close up
 abbrev pub without : Catalog → SnapNo → Catalog
 without cat s = record cat { snaps = remove cat.snaps s.0 }

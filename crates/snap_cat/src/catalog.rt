@@ -3,7 +3,7 @@
 ghost use Rattle.std.specs.Prelude.{◌≡◌, ◌≢◌, ◌+◌, ◌-◌, ◌^◌, ◌<◌, ◌≤◌, true, false, IfOk, IsTrue, MatchOption, length};
 ghost use Rattle.std.specs.Borrow.{Lends, sem};
 ghost use Rattle.rec_log.specs.contracts.transaction.Work.{the_row as work_row};
-ghost use Rattle.snap_cat.specs.Catalog.{HasSnap, IsCatalog, LacksName, IsNamed, empty, snap_at, with_new, without, with_state, with_owed};
+ghost use Rattle.snap_cat.specs.Catalog.{HasSnap, IsCatalog, LacksName, IsNamed, empty, snap_at, with_new, with_opened, IsBehind, without, with_state, with_owed};
 ghost use Rattle.snap_cat.specs.contracts.catalog.SnapCat.{the_row};
 
 use crate::SnapState;
@@ -145,6 +145,33 @@ impl SnapCat {
             owed,
         });
         self.next_cut += 1;
+        SnapNo(place)
+    }
+
+    /// Takes in a snapshot of an opened catalog, behind all others; it owes nothing. The next cut stays.
+    pub fn opened(
+        &mut self,
+        alloc: Global,
+        name: Name,
+        files: FileNames,
+        cut: u64,
+        state: SnapState,
+    ) -> SnapNo
+        requires few { length self.old.snaps < 8 }
+        requires name { LacksName self.old name }
+        requires above { IsBehind self.old cut }
+        requires below { cut < self.old.next_cut }
+        ensures place { result.0 ≡ length self.old.snaps }
+        ensures added { self.new ≡ with_opened self.old name files cut state }
+    {
+        let place = self.snaps.len() as u8;
+        self.snaps.push_reserved(Snapshot {
+            name,
+            files,
+            cut,
+            state,
+            owed: Work::none(alloc),
+        });
         SnapNo(place)
     }
 
