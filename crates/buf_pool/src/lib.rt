@@ -9,6 +9,8 @@ mod frame;
 mod pins;
 mod pool;
 mod refusal;
+#[cfg(test)]
+mod tests;
 
 pub use frame::Frame;
 pub use pool::{Pool, may_move};
