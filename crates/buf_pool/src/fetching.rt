@@ -1,4 +1,4 @@
-//! A page that isn't in memory is read into a frame that is free or made so, by one read.
+//! A page that isn't in memory is read into a frame that is free or made so.
 
 ghost use Rattle.std.specs.Prelude.{◌≡◌, ◌<◌, ◌^◌, ◌∷◌, None, IsTrue, IfOk, IfErr, OnOk, OnErr, length, slice_index};
 ghost use Rattle.page_base.specs.Pages.{image_at};

@@ -36,8 +36,8 @@ impl<P: PageFile> Pool<P> {
         None
     }
 
-    /// Writes the least recently used page that is dirty and isn't pinned, by one write, and answers whether there was
-    /// one. `Failed` only where the file's count of faults rose. Takes no memory.
+    /// Writes the least recently used page that is dirty and isn't pinned, and answers whether there was
+    /// one. `Failed` only where the sum of the counts of faults rose. Takes no memory.
     pub fn flush_one(&mut self) -> Result<bool, Failed>
         ensures stays { Stays self.old self.new }
         ensures order { order self.new ≡ order self.old }
@@ -52,8 +52,8 @@ impl<P: PageFile> Pool<P> {
         }
     }
 
-    /// Writes a page where it is dirty, pinned or not, by one write, and answers whether it was. `Failed` only where the
-    /// file's count of faults rose. Takes no memory.
+    /// Writes a page where it is dirty, pinned or not, and answers whether it was. `Failed` only where the
+    /// sum of the counts of faults rose. Takes no memory.
     pub fn flush_page(&mut self, p: PageId) -> Result<bool, Failed>
         ensures stays { Stays self.old self.new }
         ensures order { order self.new ≡ order self.old }
