@@ -1,24 +1,20 @@
--- Snapshots that are gone, and names that are off the volume.
-use Rattle.std.proofs.Common.{◌≡◌, ℕ, Bool, true, false, ◌&&◌, ◌||◌, not, cond, List, [], ◌∷◌, ◌++◌, filter, refl, ap, sym, ◌∙◌, subst, inl, inr}
-use Rattle.std.specs.Prelude.{Option, Some, None, is_some, find, unwrap_or}
+-- Snapshots that are gone, names that are off the volume, and a session that is put in its place.
+use Rattle.std.proofs.Common.{◌≡◌, ℕ, ◌-◌, Bool, true, false, ◌&&◌, ◌||◌, not, nat_le, cond, IsTrue, List, [], ◌∷◌, ◌++◌, filter, length, length-set, refl, ap, sym, ◌∙◌, inl, inr, arith}
+use Rattle.std.specs.Prelude.{None, is_some, find}
 use Rattle.std.specs.List.{list_any}
 use Rattle.std.specs.Str.{bytes_eq}
-use Rattle.std.proofs.lemmas.Bool.{cases_Bool}
-use Rattle.std.proofs.lemmas.List.Folds.{list_any-append}
-use Rattle.plain_model.specs.Legal.{without_names}
-use Rattle.plain_model.specs.State.{Snap}
-use Rattle.plain_steps.proofs.LockLemmas.{same_bytes}
-use Rattle.std.proofs.Common.{◌-◌, ◌<◌, nat_le, IsTrue, length, length-set, arith}
+use Rattle.std.specs.Ordering.{nat_cmp}
+use Rattle.std.specs.Cmp.Lexicographic.{nat_list_cmp_total, slice_cmp}
 use Rattle.std.specs.FinMap as finite
 use Rattle.std.specs.FinMap.{get-remove}
-use Rattle.std.specs.Cmp.Lexicographic.{nat_list_cmp_total, slice_cmp}
-use Rattle.std.specs.Ordering.{nat_cmp}
-use Rattle.std.proofs.lemmas.Bool.{leb-true}
+use Rattle.std.proofs.lemmas.Bool.{cases_Bool, leb-true}
 use Rattle.std.proofs.lemmas.List.{get_or-set_same}
+use Rattle.std.proofs.lemmas.List.Folds.{list_any-append}
 use Rattle.std.proofs.lemmas.Map.Text.{is_eq-slice_cmp}
-use Rattle.plain_model.specs.Legal.{with_session}
-use Rattle.plain_model.specs.State.{Plain, Session, session, is_session, fresh_session}
 use Rattle.plain_model.specs.Tables.{Tables}
+use Rattle.plain_model.specs.Legal.{with_session, without_names}
+use Rattle.plain_model.specs.State.{Plain, Session, Snap, session, is_session, fresh_session}
+use Rattle.plain_steps.proofs.LockLemmas.{same_bytes}
 
 -- of the snapshots without those of a name none has it
 pub none_left : (d : List ℕ) (ss : List Snap) → is_some (find (λ (s : Snap). bytes_eq s.name d) (filter (λ s. not (bytes_eq s.name d)) ss)) ≡ false

@@ -1,4 +1,4 @@
-use Rattle.std.proofs.Common.{◌≡◌, ◌∙◌, ◌-◌, ap, sym, ℕ, true, cond, nat_le, List, ◌∷◌, refl, Bool, false}
+use Rattle.std.proofs.Common.{◌≡◌, ◌∙◌, ◌-◌, ap, ℕ, true, cond, nat_le, ◌∷◌, Bool}
 use Rattle.plain_model.specs.Journal.{Committed}
 use Rattle.plain_model.specs.Legal.{with_session, outside, after_commit}
 use Rattle.plain_model.specs.State.{Plain, Session, session, committed}

@@ -2,7 +2,7 @@ use Rattle.std.proofs.Common.{◌≡◌, ◌∙◌, ap, List, ℕ, true, false}
 use Rattle.std.specs.Prelude.{Option, Some, None}
 use Rattle.std.specs.Str.{bytes_eq}
 use Rattle.std.specs.List.{list_any}
-use Rattle.plain_model.specs.Legal.{with_doubt, without_made, without_names}
+use Rattle.plain_model.specs.Legal.{with_doubt, without_made}
 use Rattle.plain_model.specs.Next.{sparse_names}
 use Rattle.plain_model.specs.State.{Plain, session, is_snap}
 use Rattle.plain_steps.proofs.ReplyLemmas.{none_left, none_named, among}
