@@ -18,7 +18,7 @@ mod root_edits;
 mod tests;
 mod turns;
 
-pub use law::placed_rows_are_the_rows;
+pub use law::{heaps_keep_by_keys, placed_rows_are_the_rows};
 pub use layout::new_root;
 pub use limits::may_put;
 pub use planning::plan;
