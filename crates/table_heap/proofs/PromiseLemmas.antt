@@ -13,7 +13,7 @@ use Rattle.table_walk.specs.declared.plan.Edit.{Edit}
 use Rattle.table_walk.specs.declared.plan.Spot.TheVariants.{Old}
 use Rattle.table_walk.specs.declared.visit.Visit.{Visit}
 use Rattle.table_walk.specs.Plans.{after, Go, also, AreFree, AreWithin, IsOtherSlot, IsOnLeaf, place, cut_all, put_all}
-use Rattle.table_walk.specs.Tables.{is_leaf}
+use Rattle.table_walk.specs.Tables.{is_leaf, MayPut}
 use Rattle.table_walk.specs.Walk.{Reaches, IsWalk, IsSeenWalk}
 use Rattle.table_walk.proofs.WalkLemmas.{is_all, walks-one}
 use Rattle.table_heap.specs.declared.growing.Growth.{Growth}
@@ -23,7 +23,7 @@ use Rattle.table_heap.specs.Growth.{IsNumbering, IsChain, leaf_claims, root_clai
 use Rattle.table_heap.specs.Heap.{heap_kids, first, RowsAt}
 use Rattle.table_heap.specs.Leaves.{Leaf, slots_of, cut_keys, put_rows}
 use Rattle.table_heap.specs.Places.{Index, AreRows, AreApart, IsDraft}
-use Rattle.table_heap.specs.Planning.{MayPut, HasLeaves, AreBehind, AreClaimed, Promises}
+use Rattle.table_heap.specs.Planning.{HasLeaves, AreBehind, AreClaimed, Promises}
 use Rattle.table_heap.specs.Shape.{Chain, visits_of, times, leaves_in, roots_in}
 use Rattle.table_heap.proofs.ApartLemmas.{rows_are, apart_of}
 use Rattle.table_heap.proofs.EmissionLemmas.{map_length}

@@ -1,27 +1,20 @@
 -- What a plan of a heap promises: the table of rows that it leaves, and the leaf and slot of each row.
-use Rattle.std.specs.Prelude.{Bool, ◌≡◌, ◌≢◌, All, ℕ, ◌++◌, ◌+◌, ◌*◌, ◌<◌, if◌then◌else◌, List, [], ◌∷◌, length, take, drop, map}
+use Rattle.std.specs.Prelude.{Bool, ◌≡◌, All, ℕ, ◌++◌, ◌+◌, ◌*◌, ◌<◌, if◌then◌else◌, List, [], ◌∷◌, length, take, drop, map}
 use Rattle.std.specs.List.{AllPairs}
 use Rattle.page_base.specs.declared.column.Column.{Column}
 use Rattle.page_base.specs.declared.numbers.PageId.{PageId}
 use Rattle.page_base.specs.declared.value.Value.{Value}
 use Rattle.page_fmt.specs.Seen.{SlotsAt, Looked, Shows}
 use Rattle.plain_model.specs.Tables.{Rows}
-use Rattle.row_fmt.specs.Rows.{IsRowOf}
 use Rattle.table_walk.specs.declared.plan.Edit.{Edit}
 use Rattle.table_walk.specs.declared.visit.Visit.{Visit}
 use Rattle.table_walk.specs.Walk.{IsWalk}
-use Rattle.table_walk.specs.Tables.{is_leaf, IsSmall}
+use Rattle.table_walk.specs.Tables.{is_leaf, MayPut}
 use Rattle.table_walk.specs.Plans.{after, AreFree, IsBelow, IsOtherSlot, IsOnLeaf, Carries, cut_all, put_all}
 use Rattle.table_heap.specs.Heap.{heap_kids, heap_shape, first, RowsAt}
 use Rattle.table_heap.specs.Growth.{IsNumbering}
 use Rattle.table_heap.specs.Shape.{leaves_in, roots_in}
 use Rattle.table_heap.specs.Leaves.{Leaf, slots_of, all_rows, cut_keys, put_rows}
-
--- a row that a plan may put: one of these columns, of which there are some, within the limits
-pub record MayPut (cols : List Column) (row : List Value) : Type 0 where
-  pub of : IsRowOf cols row
-  pub small : IsSmall cols row
-  pub some : row ≢ []
 
 -- the slots of the leaves, in the order of the walk
 abbrev pub leaf_slots : SlotsAt → List Visit → List (List (List ℕ))

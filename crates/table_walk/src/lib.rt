@@ -8,6 +8,7 @@ mod index;
 mod key;
 mod law;
 mod layout;
+mod limits;
 mod plan;
 mod refusal;
 mod row_map;
@@ -24,6 +25,7 @@ pub use law::{
     plans_depend_on_the_claimed_pages, rows_are_one, rows_depend_on_owned_pages,
 };
 pub use layout::{Layout, Walked, walk, wants_of};
+pub use limits::may_put;
 pub use plan::{Edit, EditList, Plan, Spot};
 pub use refusal::SeenRefusal;
 pub use row_map::RowMap;
