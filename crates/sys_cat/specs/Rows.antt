@@ -1,5 +1,5 @@
 -- The rows of table 0 that tell of one table: one for the table, and one for each of its columns.
-use Rattle.std.specs.Prelude.{ℕ, pos, ◌+◌, ◌*◌, if◌then◌else◌, List, [], ◌∷◌}
+use Rattle.std.specs.Prelude.{ℕ, pos, ◌+◌, ◌*◌, if◌then◌else◌, false, codes, List, [], ◌∷◌}
 use Rattle.page_base.specs.declared.column.Column.{Column}
 use Rattle.page_base.specs.declared.column.ColType.{ColType}
 use Rattle.page_base.specs.declared.column.ColType.TheVariants as types
@@ -43,3 +43,14 @@ column_rows name ord (c ∷ cs) = column_row name ord c ∷ column_rows name (or
 -- all rows of a table
 abbrev pub rows_of : TableDesc → List (List Value)
 rows_of d = table_row d ∷ column_rows d.name 1 d.cols
+
+-- the columns of table 0: the name and the ordinal, which are its key, a text and three numbers
+abbrev pub table_0 : List Column
+table_0 =
+    record { name = codes "name"; kind = types.Text 128; nullable = false; key = 1 }
+    ∷ record { name = codes "ord"; kind = types.Int; nullable = false; key = 2 }
+    ∷ record { name = codes "text"; kind = types.Text 128; nullable = false; key = 0 }
+    ∷ record { name = codes "a"; kind = types.Int; nullable = false; key = 0 }
+    ∷ record { name = codes "b"; kind = types.Int; nullable = false; key = 0 }
+    ∷ record { name = codes "c"; kind = types.Int; nullable = false; key = 0 }
+    ∷ []
