@@ -1,7 +1,9 @@
 -- Writes of slots to come: those of claims and of edits, once the claimed pages are known.
-use Rattle.std.specs.Prelude.{ℕ, zero, suc, ◌+◌, ◌≡◌, ◌<◌, ◌≢◌, true, List, [], ◌∷◌, ◌++◌, map}
+use Rattle.std.specs.Prelude.{ℕ, zero, suc, ◌+◌, ◌≡◌, ◌<◌, ◌≢◌, true, List, [], ◌∷◌, ◌++◌}
 use Rattle.page_base.specs.declared.numbers.PageId.{PageId}
 use Rattle.page_base.specs.Slots.{Slots, with_slot}
+use Rattle.page_base.specs.Pages.{set_at}
+use Rattle.page_fmt.specs.Edits.{edited}
 use Rattle.page_fmt.specs.Seen.{SlotsAt}
 use Rattle.alloc_pages.specs.Owners.{owner_bytes}
 use Rattle.alloc_pages.specs.Spots.{spot_of}
@@ -40,3 +42,9 @@ pub record AreClaimable (counts : List ℕ) (at : SlotsAt) (claimed : ℕ → Pa
   pub free : (i : ℕ) → i < n → owner at (claimed i) ≡ 0
   pub differ : (i j : ℕ) → i < j → j < n → claimed i ≢ claimed j
   pub targets : (i : ℕ) → i < n → IsTarget (claimed i)
+
+-- the pages once the first n claims are done
+abbrev pub with_claims : ℕ → (ℕ → PageId) → ℕ → SlotsAt → SlotsAt
+with_claims number claimed zero at = at
+with_claims number claimed (suc n) at = set_at (with_claims number claimed n at) (spot_of (claimed n)).page
+    (edited (with_claims number claimed n at (spot_of (claimed n)).page) (spot_of (claimed n)).slot (owner_bytes (number + 1)))

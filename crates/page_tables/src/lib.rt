@@ -3,4 +3,7 @@
 
 mod law;
 
-pub use law::bases_are_one;
+pub use law::{
+    a_plan_is_one_of_the_database, bases_are_one, claims_give_their_pages, sheets_are_pages,
+    tables_depend_on_their_pages, writes_are_claims_and_edits,
+};
