@@ -17,7 +17,7 @@ mod root_edits;
 mod tests;
 mod turns;
 
-pub use law::placed_rows_are_the_rows;
+pub use law::{heaps_keep_by_keys, placed_rows_are_the_rows};
 pub use layout::new_root;
 pub use planning::plan;
 pub use reading::{rows, wants};

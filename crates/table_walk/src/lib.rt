@@ -21,7 +21,7 @@ pub use find::{Find, Wants};
 pub use index::{page_index, place};
 pub use key::{copy_row, key_of};
 pub use law::{
-    addresses_are_read, plans_are_carried_on, plans_depend_on_owned_pages,
+    a_row_may_be_filled_in, addresses_are_read, plans_are_carried_on, plans_depend_on_owned_pages,
     plans_depend_on_the_claimed_pages, rows_are_one, rows_depend_on_owned_pages,
 };
 pub use layout::{Layout, Walked, walk, wants_of};
