@@ -204,6 +204,11 @@ told_err : {Y : Type 0} (bytes : List ℕ) (o : Option Y) (after rest : List ℕ
 told_err bytes None after rest e = let same : bytes ≡ rest = cc in sym same
 told_err bytes (Some x) after rest e = absurd cc
 
+-- a field that was read, and what it tells
+pub through_is : {X Y : Type 0} (f : X → Option Y) (read : List ℕ → Read X) (bytes : List ℕ) (x : X) (after : List ℕ) (o : Option Y) → read bytes ≡ ok x after → f x ≡ o → through f read bytes ≡ told bytes o after
+unfolding through
+through_is {X = X} {Y = Y} f read bytes x after o e is = ap (λ (r : Read X). r >>= λ y. told bytes (f y.0) y.1) e ∙ ap (λ (p : Option Y). told bytes p after) is
+
 module _ {X Y : Type 0} (Fits : X → Type 0) (field : X → List ℕ) (read : List ℕ → Read X) (FitsY : Y → Type 0) (fieldY : Y → List ℕ) (f : X → Option Y) (back : Y → X) where
   -- each value of the field tells one other, and that is told by no other
   pub record Tells : Type 0 where
@@ -265,9 +270,7 @@ IsField-name = field_through (λ (text : List ℕ). length text < 256) short sho
 
 -- a text with its length in one byte, taken for a name
 pub name_read : (bytes text after : List ℕ) (o : Option (List ℕ)) → short_at bytes ≡ ok text after → SomeIff o (IsLowName text) text → name_at bytes ≡ told bytes o after
-unfolding through
-name_read bytes text after o e h =
-    ap (λ (r : Read (List ℕ)). r >>= λ x. told bytes (low_name x.0) x.1) e ∙ ap (λ (p : Option (List ℕ)). told bytes p after) (sym (kept_is text o h))
+name_read bytes text after o e h = through_is low_name short_at bytes text after o e (sym (kept_is text o h))
 
 -- ---- as law.rt says it
 

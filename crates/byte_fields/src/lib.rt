@@ -4,13 +4,11 @@
 mod law;
 mod reader;
 mod stop;
-
-
+#[cfg(test)]
+mod tests;
 mod writing;
 
 pub use law::fields_are_read;
 pub use reader::Reader;
 pub use stop::Stop;
-pub use writing::{
-    put_address, put_name, put_short, put_text, put_u16, put_u32, put_u64,
-};
+pub use writing::{put_address, put_name, put_short, put_text, put_u16, put_u32, put_u64};

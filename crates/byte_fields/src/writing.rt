@@ -1,6 +1,7 @@
 //! The bytes of one field, put behind others.
 
 ghost use Rattle.std.specs.Prelude.{◌≡◌, ◌++◌, ◌<◌, ◌^◌, length, OnOk};
+ghost use Rattle.page_base.specs.Name.{IsLowName};
 ghost use Rattle.byte_fields.specs.Fields.{sized, short, address};
 ghost use Rattle.byte_fields.specs.Numbers.{number};
 
@@ -71,7 +72,8 @@ pub fn put_short(out: &mut Vec<u8>, text: &[u8]) -> Result<(), NoMemory>
 
 /// Puts a name behind the others, its length in one byte in front.
 pub fn put_name(out: &mut Vec<u8>, name: &Name) -> Result<(), NoMemory>
-    ensures { OnOk result (out.new.items ≡ out.old.items ++ short name.now) }
+    ensures ok { OnOk result (out.new.items ≡ out.old.items ++ short name.now) }
+    ensures name { IsLowName name.now }
 {
     put_short(out, name.bytes())
 }

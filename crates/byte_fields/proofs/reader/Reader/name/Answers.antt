@@ -1,8 +1,8 @@
 -- A text that is a name, and one that isn't.
 use Rattle.std.proofs.Common.{◌≡◌, List, ℕ, ap, sym, ◌∙◌}
-use Rattle.std.specs.Prelude.{Ok, Option}
+use Rattle.std.specs.Prelude.{Option}
 use Rattle.page_base.proofs.FormatLemmas.{ok}
-use Rattle.byte_fields.specs.Reading.{short_at, told, name_at}
+use Rattle.byte_fields.specs.Reading.{short_at, told}
 use Rattle.byte_fields.proofs.FieldLemmas.{name_read}
 use Rattle.byte_fields.proofs.reader.Reader.name.Goals as goal
 
