@@ -38,6 +38,13 @@ impl<'a> Reader<'a> {
         Reader { rest: self.rest }
     }
 
+    /// The bytes that are still to be read.
+    pub fn rest(&self) -> &'a [u8]
+        ensures { result.now ≡ self.now }
+    {
+        self.rest
+    }
+
     /// How many bytes are still to be read.
     pub fn len(&self) -> usize
         ensures { result ≡ length self.now }
