@@ -10,11 +10,11 @@ use Rattle.page_base.specs.Pages.{is_page, set_at}
 use Rattle.page_fmt.specs.Seen.{SlotsAt}
 use Rattle.plain_model.specs.Tables.{Rows, Table, Tables}
 use Rattle.sys_cat.specs.declared.desc.TableDesc.{TableDesc}
-use Rattle.sys_cat.specs.Rows.{table_0}
+use Rattle.sys_cat.specs.Rows.{zero_root, table_0}
 use Rattle.sys_cat.proofs.ParseLemmas.{rows_determine}
 use Rattle.table_walk.specs.Tables.{HasRows}
 use Rattle.table_walk.proofs.TableLemmas.{table_one, table_same}
-use Rattle.page_tables.specs.Bases.{root_0, AreRowsOf, HasTable, IsBase}
+use Rattle.page_tables.specs.Bases.{AreRowsOf, HasTable, IsBase}
 use Rattle.page_tables.specs.Layout.{shape, first}
 use Rattle.page_tables.specs.Owners.{is_there, owner, owns, IsAllocPage, IsSpread}
 use Rattle.page_tables.proofs.OwnerLemmas.{page_cases, not_alloc, owners_off}
@@ -23,7 +23,7 @@ use Rattle.std.proofs.lemmas.Bool.{and_parts, eqb-true}
 module _ (counts : List ℕ) (at : SlotsAt) where
   pub descs_one : (ds es : List TableDesc) (tables others : Tables) → IsBase counts at ds tables → IsBase counts at es others → ds ≡ es
   descs_one ds es tables others a b =
-      let same : a.zero_rows ≡ b.zero_rows = table_one shape table_0 at (owns counts at 0) (owns counts at 0) (first root_0) a.zero_rows b.zero_rows a.zero_pages b.zero_pages in
+      let same : a.zero_rows ≡ b.zero_rows = table_one shape table_0 at (owns counts at 0) (owns counts at 0) (first zero_root) a.zero_rows b.zero_rows a.zero_pages b.zero_pages in
       rows_determine (finite.values b.zero_rows) ds es (sym (ap finite.values same) ∙ a.descs.spelled) b.descs.spelled
 
   -- of a name that is there the tables are one

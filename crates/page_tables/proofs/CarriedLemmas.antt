@@ -21,14 +21,14 @@ use Rattle.page_fmt.specs.Seen.{SlotsAt}
 use Rattle.plain_model.specs.Tables.{Rows, Table, Tables}
 use Rattle.sys_cat.specs.declared.desc.TableDesc.{TableDesc}
 use Rattle.sys_cat.specs.Lists.{IsDesc, AreDescs}
-use Rattle.sys_cat.specs.Rows.{table_0}
+use Rattle.sys_cat.specs.Rows.{zero_root, table_0}
 use Rattle.table_walk.specs.declared.plan.Edit.{Edit}
 use Rattle.table_walk.specs.Plans.{place, slots_after, changed, after, also, is_claimed, AreWithin, Carries}
 use Rattle.table_walk.specs.Tables.{HasRows}
 use Rattle.table_walk.proofs.PlanLemmas.{carries_same}
 use Rattle.alloc_pages.specs.Owners.{owner_at}
 use Rattle.alloc_pages.specs.Spots.{spot_of}
-use Rattle.page_tables.specs.Bases.{root_0, AreRowsOf, HasTable, IsBase}
+use Rattle.page_tables.specs.Bases.{AreRowsOf, HasTable, IsBase}
 use Rattle.page_tables.specs.Layout.{shape, first}
 use Rattle.page_tables.specs.Owners.{is_there, owner, owns, IsAllocPage, IsSpread, IsOwner}
 use Rattle.page_tables.specs.Owners.IsOwner.{OfTable}
@@ -260,7 +260,7 @@ module _ (counts : List ℕ) (at : SlotsAt) (ds : List TableDesc) (tables : Tabl
   carried = record {
     spread = spread_last;
     zero_rows = b.zero_rows;
-    zero_pages = other_rows table_0 0 root_0 b.zero_rows (λ e. absurd (let low : 1 ≤ d.number.0 = desc.head.some in omega (arith, e, low))) (omega arith) b.zero_pages;
+    zero_pages = other_rows table_0 0 zero_root b.zero_rows (λ e. absurd (let low : 1 ≤ d.number.0 = desc.head.some in omega (arith, e, low))) (omega arith) b.zero_pages;
     descs = b.descs;
     each = each_last;
     only = only_last;

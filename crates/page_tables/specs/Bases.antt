@@ -8,14 +8,11 @@ use Rattle.page_fmt.specs.Seen.{SlotsAt}
 use Rattle.plain_model.specs.Tables.{Rows, Table, Tables}
 use Rattle.sys_cat.specs.declared.desc.TableDesc.{TableDesc}
 use Rattle.sys_cat.specs.Lists.{AreTables}
-use Rattle.sys_cat.specs.Rows.{table_0}
+use Rattle.sys_cat.specs.Rows.{zero_root, table_0}
 use Rattle.table_walk.specs.Tables.{HasRows}
 use Rattle.page_tables.specs.Layout.{shape, first}
 use Rattle.page_tables.specs.Owners.{is_there, owner, owns, IsAllocPage, IsSpread, IsOwner}
 
--- the root of table 0
-abbrev pub root_0 : PageId
-root_0 = record { file = 0; page = 1 }
 
 -- the pages of the table of this number, from this root on, are these rows
 abbrev pub AreRowsOf : List ℕ → SlotsAt → List Column → ℕ → PageId → Rows → Type 0
@@ -30,7 +27,7 @@ pub record HasTable (counts : List ℕ) (at : SlotsAt) (tables : Tables) (d : Ta
 pub record IsBase (counts : List ℕ) (at : SlotsAt) (ds : List TableDesc) (tables : Tables) : Type 0 where
   pub spread : (a : PageId) → IsAllocPage counts a → IsSpread counts at a
   pub zero_rows : Rows
-  pub zero_pages : AreRowsOf counts at table_0 0 root_0 zero_rows
+  pub zero_pages : AreRowsOf counts at table_0 0 zero_root zero_rows
   pub descs : AreTables (finite.values zero_rows) ds
   pub each : All (HasTable counts at tables) ds
   pub only : (name : List ℕ) (t : Table) → finite.get tables name ≡ Some t → Any (λ d. d.name ≡ name) ds

@@ -11,10 +11,13 @@ use Rattle.page_base.proofs.ManyLemmas.{AreMany, format_of_times}
 use Rattle.rec_log.specs.declared.reader.Kind.{Kind}
 use Rattle.rec_log.specs.declared.reader.Kind.TheVariants as kinds
 use Rattle.rec_log.specs.Records.{Record}
-use Rattle.rec_log.specs.Numbers.{number}
-use Rattle.rec_log.specs.Entries.{Entry, Commit, Revert, IsLogged, IsEntry, address, sized, record_fields, entry_fields}
-use Rattle.rec_log.specs.Reading.{kind_at, count_at, address_at, slot_at, text_at, record_at, name_at, commit_at, revert_at, entry_of_kind, entry_at}
-use Rattle.rec_log.proofs.FieldLemmas.{IsField-kind, IsField-count, IsField-address, IsField-slot, IsField-text, IsField-name, AnyKind, kind_byte, name_bytes}
+use Rattle.byte_fields.specs.Numbers.{number}
+use Rattle.byte_fields.specs.Fields.{address, sized, short}
+use Rattle.byte_fields.specs.Reading.{address_at, name_at}
+use Rattle.byte_fields.proofs.FieldLemmas.{IsField-number, IsField-address, IsField-name}
+use Rattle.rec_log.specs.Entries.{Entry, Commit, Revert, IsLogged, IsEntry, record_fields, entry_fields}
+use Rattle.rec_log.specs.Reading.{kind_at, count_at, slot_at, text_at, record_at, commit_at, revert_at, entry_of_kind, entry_at}
+use Rattle.rec_log.proofs.FieldLemmas.{IsField-kind, IsField-slot, IsField-text, AnyKind, kind_byte}
 
 -- the records with these first parts
 abbrev On : PageId → Record → Type 0
@@ -156,7 +159,7 @@ unfolding commit_at
 IsFormat-commit =
     format_of_sequence (λ (n : ℕ). n < 2 ^ 64) (λ n. number 8 n ∷ []) count_at (OfKind kinds.Commit) behind_kind (λ (entry : Entry). length (records_of entry)) behind_count
     (λ n bytes. times_at record_at n bytes >>= λ records. Ok (Commit records.0, records.1)) (record {
-      first = format_of_field _ (number 8) count_at IsField-count;
+      first = format_of_field _ (number 8) count_at (IsField-number 8);
       second = from_records;
       fits = count_fits;
       are = count_is;
@@ -166,7 +169,7 @@ name_fits : (entry : Entry) → OfKind kinds.Revert entry → IsLowName (name_of
 name_fits (Commit records) h = no_commit records h.1
 name_fits (Revert name) h = h.0
 
-name_is : (entry : Entry) → OfKind kinds.Revert entry → behind_kind entry ≡ name_bytes (name_of entry) ∷ []
+name_is : (entry : Entry) → OfKind kinds.Revert entry → behind_kind entry ≡ short (name_of entry) ∷ []
 name_is (Commit records) h = no_commit records h.1
 name_is (Revert name) h = refl
 
@@ -184,8 +187,8 @@ revert_of name low = format_of_end (λ entry. OfKind kinds.Revert entry × (name
 IsFormat-revert : IsFormat (OfKind kinds.Revert) behind_kind revert_at
 unfolding revert_at
 IsFormat-revert =
-    format_of_sequence IsLowName (λ name. name_bytes name ∷ []) name_at (OfKind kinds.Revert) behind_kind name_of (λ entry. []) (λ name bytes. Ok (Revert name, bytes)) (record {
-      first = format_of_field IsLowName name_bytes name_at IsField-name;
+    format_of_sequence IsLowName (λ name. short name ∷ []) name_at (OfKind kinds.Revert) behind_kind name_of (λ entry. []) (λ name bytes. Ok (Revert name, bytes)) (record {
+      first = format_of_field IsLowName short name_at IsField-name;
       second = revert_of;
       fits = name_fits;
       are = name_is;

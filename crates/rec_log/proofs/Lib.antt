@@ -1,6 +1,4 @@
-mod LowNames
 mod Looping
-mod Numbers
 mod FieldLemmas
 mod EntryLemmas
 pub mod LogLemmas

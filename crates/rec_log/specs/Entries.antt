@@ -1,12 +1,12 @@
 -- What a log tells, and its bytes: the fields of its entries, one after the other.
-use Rattle.std.specs.Prelude.{◌≡◌, ℕ, ◌<◌, ◌^◌, List, [], ◌∷◌, ◌++◌, length}
+use Rattle.std.specs.Prelude.{◌≡◌, ℕ, ◌<◌, ◌^◌, List, [], ◌∷◌, length}
 use Rattle.std.specs.List.{concat, flat_map, AllByRecursion}
-use Rattle.page_base.specs.declared.numbers.PageId.{PageId}
 use Rattle.page_base.specs.Name.{IsLowName}
 use Rattle.rec_log.specs.declared.entries.LogEntry.{LogEntry}
 use Rattle.rec_log.specs.declared.entries.LogEntry.TheVariants as log
 use Rattle.rec_log.specs.Records.{Record, IsRecord}
-use Rattle.rec_log.specs.Numbers.{number}
+use Rattle.byte_fields.specs.Fields.{address, sized, short}
+use Rattle.byte_fields.specs.Numbers.{number}
 
 -- a transaction that committed with these records, or a revert to the snapshot of this name
 pub data Entry : Type 0 where
@@ -18,14 +18,6 @@ abbrev pub entry_of : LogEntry → Entry
 entry_of (log.Commit work) = Commit work.recs
 entry_of (log.Revert name) = Revert name
 
--- the file's number in one byte, the page's in four
-abbrev pub address : PageId → List ℕ
-address p = p.file ∷ number 4 p.page
-
--- a length in two bytes, and that many bytes
-abbrev pub sized : List ℕ → List ℕ
-sized bytes = number 2 (length bytes) ++ bytes
-
 -- where the record's slot is, and what stood and stands there
 abbrev pub record_fields : Record → List (List ℕ)
 record_fields r = address r.page ∷ number 2 r.slot ∷ sized r.before ∷ sized r.after ∷ []
@@ -33,7 +25,7 @@ record_fields r = address r.page ∷ number 2 r.slot ∷ sized r.before ∷ size
 -- 1 and the number of records before a commit's records; 2 before a name, which is its length in one byte and its bytes
 abbrev pub entry_fields : Entry → List (List ℕ)
 entry_fields (Commit records) = (1 ∷ []) ∷ number 8 (length records) ∷ flat_map record_fields records
-entry_fields (Revert name) = (2 ∷ []) ∷ (length name ∷ name) ∷ []
+entry_fields (Revert name) = (2 ∷ []) ∷ short name ∷ []
 
 -- the fields of all entries, in order
 abbrev pub log_fields : List Entry → List (List ℕ)

@@ -1,5 +1,4 @@
 pub mod Records
-pub mod Numbers
 pub mod Entries
 pub mod Reading
 pub mod Logs

@@ -4,8 +4,9 @@ ghost use Rattle.std.specs.Prelude.{List, map, IfOk, IfErr};
 ghost use Rattle.rec_log.specs.Entries.{Entry, entry_of, IsLog};
 ghost use Rattle.rec_log.specs.Logs.{GivesLog, Refuses};
 
-use crate::reader::{Reader, Stop};
+use crate::reader::read_entry;
 use crate::{LogForm, LogList};
+use byte_fields::{Reader, Stop};
 use std::alloc::Global;
 
 /// The entries that the bytes are. `Form` exactly where they are no log, at the first byte of the first field that
@@ -21,12 +22,13 @@ pub fn read_log(alloc: Global, bytes: &[u8]) -> Result<LogList, LogForm>
     let mut reader = Reader::new(bytes);
     let mut entries = Vec::new(alloc);
     while !reader.is_empty() {
-        match reader.entry(alloc) {
+        match read_entry(&mut reader, alloc) {
             Ok(entry) => entries.push(entry)?,
             Err(Stop::Memory) => return Err(LogForm::Memory),
             Err(Stop::Form) => {
-                let at = bytes.len() - reader.len();
-                return Err(LogForm::Form { at: at as u64 });
+                return Err(LogForm::Form {
+                    at: reader.place(bytes) as u64,
+                });
             }
         }
     }

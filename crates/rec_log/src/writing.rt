@@ -1,62 +1,13 @@
 //! The bytes of an entry, field by field.
 
-ghost use Rattle.std.specs.Prelude.{◌≡◌, ◌++◌, ◌∷◌, [], ◌<◌, ◌≤◌, ◌^◌, length, IfOk, OnOk};
+ghost use Rattle.std.specs.Prelude.{◌≡◌, ◌++◌, IfOk, OnOk};
 ghost use Rattle.std.specs.List.{concat, flat_map, AllByRecursion};
-ghost use Rattle.rec_log.specs.Numbers.{number};
-ghost use Rattle.rec_log.specs.Entries.{Commit, Revert, IsLogged, IsEntry, address, sized, record_fields, entry_bytes};
-ghost use Rattle.page_base.specs.declared.limits.TheConstants.{MAX_SLOT_BYTES};
+ghost use Rattle.rec_log.specs.Entries.{Commit, Revert, IsLogged, IsEntry, record_fields, entry_bytes};
 
 use crate::{Rec, Work};
-use byteorder::{ByteOrder, LittleEndian};
-use page_base::{Bytes, Name, NoMemory, PageId};
+use byte_fields::{put_address, put_name, put_text, put_u16, put_u64};
+use page_base::{Bytes, Name, NoMemory};
 use std::alloc::Global;
-
-#[tactic(auto, unfolding(crate::specs::Numbers::number))]
-fn put_u16(out: &mut Vec<u8>, n: u16) -> Result<(), NoMemory>
-    ensures { OnOk result (out.new.items ≡ out.old.items ++ number 2 n) }
-{
-    let mut bytes = [0u8; 2];
-    LittleEndian::write_u16(&mut bytes, n);
-    out.extend_from_slice(&bytes)?;
-    Ok(())
-}
-
-#[tactic(auto, unfolding(crate::specs::Numbers::number))]
-fn put_u32(out: &mut Vec<u8>, n: u32) -> Result<(), NoMemory>
-    ensures { OnOk result (out.new.items ≡ out.old.items ++ number 4 n) }
-{
-    let mut bytes = [0u8; 4];
-    LittleEndian::write_u32(&mut bytes, n);
-    out.extend_from_slice(&bytes)?;
-    Ok(())
-}
-
-#[tactic(auto, unfolding(crate::specs::Numbers::number))]
-fn put_u64(out: &mut Vec<u8>, n: u64) -> Result<(), NoMemory>
-    ensures { OnOk result (out.new.items ≡ out.old.items ++ number 8 n) }
-{
-    let mut bytes = [0u8; 8];
-    LittleEndian::write_u64(&mut bytes, n);
-    out.extend_from_slice(&bytes)?;
-    Ok(())
-}
-
-fn put_address(out: &mut Vec<u8>, page: PageId) -> Result<(), NoMemory>
-    ensures ok { OnOk result (out.new.items ≡ out.old.items ++ address page) }
-    ensures number { page.page < 2 ^ 32 }
-{
-    out.push(page.file)?;
-    put_u32(out, page.page)
-}
-
-fn put_text(out: &mut Vec<u8>, text: &[u8]) -> Result<(), NoMemory>
-    requires { length text.now ≤ MAX_SLOT_BYTES }
-    ensures { OnOk result (out.new.items ≡ out.old.items ++ sized text.now) }
-{
-    put_u16(out, text.len() as u16)?;
-    out.extend_from_slice(text)?;
-    Ok(())
-}
 
 fn put_record(out: &mut Vec<u8>, rec: &Rec) -> Result<(), NoMemory>
     ensures ok { OnOk result (out.new.items ≡ out.old.items ++ concat (record_fields rec.now)) }
@@ -97,10 +48,8 @@ pub fn revert_bytes(alloc: Global, snap: &Name) -> Result<Bytes, NoMemory>
     ensures bytes { IfOk result (λ bytes. bytes ≡ entry_bytes (Revert snap.now)) }
     ensures entry { OnOk result (IsEntry (Revert snap.now)) }
 {
-    let name = snap.bytes();
     let mut out = Vec::new(alloc);
     out.push(2)?;
-    out.push(name.len() as u8)?;
-    out.extend_from_slice(name)?;
+    put_name(&mut out, snap)?;
     Ok(Bytes::from(out))
 }

@@ -1,144 +1,114 @@
--- The field of each type: what is read is spelled so, what is spelled is read, and a wrong one is left as it stands.
-use Rattle.std.proofs.Common.{◌≡◌, ℕ, ◌+◌, ◌^◌, ◌<◌, ◌≤◌, inl, inr, Bool, true, false, cond, not, ◌||◌, ◌&&◌, List, [], ◌++◌, length, take, drop, refl, sym, ap, subst, ◌∙◌, arith, append_assoc, lit<, rules}
-use Rattle.std.specs.Prelude.{ℤ, pos, nat_lt, nat_le, FitsSigned, Ok, Err}
+-- The field of each type: a number or a text with its length in front, which tells a value.
+use Rattle.std.proofs.Common.{◌≡◌, ℕ, ◌^◌, ◌<◌, ◌≤◌, Bool, true, false, cond, ◌&&◌, List, [], length, refl, sym, ap, subst, ◌∙◌, arith, lit<, rules}
+use Rattle.std.specs.Prelude.{ℤ, pos, nat_le, FitsSigned, Option, None, Some}
 use Rattle.std.specs.Int.{w32, w64, cast_signed, cast_unsigned}
 use Rattle.std.specs.List.{list_all}
 use Rattle.std.proofs.Math.Facts.{sfits_to_z, Fits-of_lt}
 use Rattle.std.proofs.lemmas.Int.{to_z-of_z, of_z-to_z}
-use Rattle.std.proofs.lemmas.Bool.{ltb-false, le-ltb, and_parts, cases_Bool}
+use Rattle.std.proofs.lemmas.Bool.{and_parts}
 use Rattle.std.proofs.lemmas.Bool.Decides.{nat_tests}
-use Rattle.std.proofs.lemmas.List.{take-append-drop, length-append, length-take, length-drop, take_at, drop_at}
+use Rattle.std.proofs.lemmas.Option.{none-some, same_Some}
 use Rattle.std.proofs.lemmas.List.Sums.{AllPass-from_list_all, list_all-from_AllPass}
 use Rattle.page_base.specs.declared.column.ColType.{ColType}
 use Rattle.page_base.specs.declared.column.ColType.TheVariants as kinds
 use Rattle.page_base.specs.declared.value.Value.{Value}
 use Rattle.page_base.specs.declared.value.Value.TheVariants.{Null, Int, Big, Text}
-use Rattle.page_base.specs.Reading.{Read}
-use Rattle.page_base.proofs.FormatLemmas.{IsBytes, IsField, ok, read_is}
-use Rattle.row_fmt.specs.Numbers.{number, number_in}
+use Rattle.page_base.proofs.FormatLemmas.{IsField}
+use Rattle.byte_fields.specs.Numbers.{number}
+use Rattle.byte_fields.specs.Fields.{sized}
+use Rattle.byte_fields.specs.Reading.{number_at, sized_at}
+use Rattle.byte_fields.proofs.FieldLemmas.{IsField-number, IsField-sized, field_through}
 use Rattle.row_fmt.specs.Rows.{is_text_byte, IsText, IsOfKind, InRange}
-use Rattle.row_fmt.specs.Reading.{int_at, big_at, is_text, text_of, text_at, value_at}
-use Rattle.row_fmt.proofs.Numbers.{number-number_in, number_in-number, number_in-lt, length-number}
+use Rattle.row_fmt.specs.Reading.{int_at, big_at, is_text, text_value, text_at, value_at}
 
 -- the bytes of a value that isn't NULL
 abbrev pub field_of : Value → List ℕ
 field_of Null = []
 field_of (Int n) = number 4 (cast_unsigned w32 n)
 field_of (Big n) = number 8 (cast_unsigned w64 n)
-field_of (Text bytes) = number 2 (length bytes) ++ bytes
+field_of (Text bytes) = sized bytes
 
 -- a value of this type, as a program can hold it
 abbrev pub IsCell : ColType → Value → Type 0
 IsCell kind value = IsOfKind kind value × InRange value
 
--- a test that was passed, and one that wasn't
-passed : {X : Type 0} (b : Bool) (bytes : List ℕ) (x : X) (after : List ℕ) (y : X) (rest : List ℕ) → cond b (Err bytes) (ok x after) ≡ Ok (y, rest) → (b ≡ false) × (x ≡ y) × (after ≡ rest)
-passed true bytes x after y rest e = absurd cc
-passed false bytes x after y rest e = let p = read_is x y after rest e in (refl, p.0, p.1)
-
-refused : {X : Type 0} (b : Bool) (bytes : List ℕ) (x : X) (after rest : List ℕ) → cond b (Err bytes) (ok x after) ≡ Err rest → rest ≡ bytes
-refused true bytes x after rest e = let same : bytes ≡ rest = cc in sym same
-refused false bytes x after rest e = absurd cc
-
-passed_to : {X : Type 0} (b : Bool) (bytes : List ℕ) (next : Read X) (y : X × List ℕ) → cond b (Err bytes) next ≡ Ok y → (b ≡ false) × (next ≡ Ok y)
-passed_to true bytes next y e = absurd cc
-passed_to false bytes next y e = (refl, e)
-
-abbrev err : {X : Type 0} → List ℕ → Read X
-err rest = Err rest
-
-err_from : {X : Type 0} (bytes rest : List ℕ) → err {X = X} bytes ≡ err rest → bytes ≡ rest
-err_from bytes rest e = cc
-
-neither : (a b : Bool) → (a || b) ≡ false → (a ≡ false) × (b ≡ false)
-neither true b e = absurd (let wrong : true ≡ false = e in cc)
-neither false b e = (refl, e)
-
-not_not : (b : Bool) → not b ≡ false → b ≡ true
-not_not true e = refl
-not_not false e = absurd (let wrong : true ≡ false = e in cc)
-
--- a number at the front
-front : (n : ℕ) (bytes : List ℕ) → n ≤ length bytes → IsBytes bytes → bytes ≡ number n (number_in n bytes) ++ drop n bytes
-front n bytes le h = sym (take-append-drop n bytes) ∙ ap (λ (f : List ℕ). f ++ drop n bytes) (sym (number-number_in n bytes le h))
-
-long_enough : (n x : ℕ) (rest : List ℕ) → nat_lt (length (number n x ++ rest)) n ≡ false
-long_enough n x rest = le-ltb _ n (omega (arith, length-append (number n x) rest, length-number n x))
-
-behind : (n x : ℕ) (rest : List ℕ) → drop n (number n x ++ rest) ≡ rest
-behind n x rest = drop_at (number n x) rest n (length-number n x)
-
 -- ---- INT
+
+abbrev int_number : Value → ℕ
+int_number Null = 0
+int_number (Int z) = cast_unsigned w32 z
+int_number (Big z) = 0
+int_number (Text bytes) = 0
+
+abbrev int_of : ℕ → Option Value
+int_of n = Some (Int (cast_signed w32 n))
+
+int_takes : (n : ℕ) (v : Value) → n < 256 ^ 4 → int_of n ≡ Some v → IsCell kinds.Int v × (n ≡ int_number v)
+int_takes n v fits e =
+    let small : n < 2 ^ 32 = fits in
+    let same : n ≡ cast_unsigned w32 (cast_signed w32 n) = sym (of_z-to_z w32 n small) in
+    let is : Int (cast_signed w32 n) ≡ v = same_Some (Int (cast_signed w32 n)) v e in
+    (subst (IsCell kinds.Int) is (tt, sfits_to_z (Fits-of_lt small)), same ∙ ap int_number is)
 
 int_below : (z : ℤ) → FitsSigned w32 z → cast_unsigned w32 z < 2 ^ 32
 int_below z h = grind (arith)
 
-int_takes : (bytes : List ℕ) (v : Value) (rest : List ℕ) → IsBytes bytes → int_at bytes ≡ Ok (v, rest) → IsCell kinds.Int v × (bytes ≡ field_of v ++ rest)
-unfolding int_at
-int_takes bytes v rest h e =
-    let n : ℕ = number_in 4 bytes in
-    let g = passed (nat_lt (length bytes) 4) bytes (Int (cast_signed w32 n)) (drop 4 bytes) v rest e in
-    let long : 4 ≤ length bytes = ltb-false _ _ g.0 in
-    let small : n < 2 ^ 32 = number_in-lt 4 bytes h in
-    let same : n ≡ cast_unsigned w32 (cast_signed w32 n) = sym (of_z-to_z w32 n small) in
-    (subst (IsCell kinds.Int) g.1 (tt, sfits_to_z (Fits-of_lt small)), front 4 bytes long h ∙ (λ i. number 4 (same i) ++ drop 4 bytes) ∙ (λ i. field_of (g.1 i) ++ g.2 i))
+int_again : (v : Value) → IsCell kinds.Int v → (int_number v < 256 ^ 4) × (int_of (int_number v) ≡ Some v)
+int_again Null h = absurd h.0
+int_again (Big z) h = absurd h.0
+int_again (Text bytes) h = absurd h.0
+int_again (Int z) h = (int_below z h.1, ap (λ (x : ℤ). Some (Int x)) (to_z-of_z w32 z h.1))
 
-int_again : (v : Value) (rest : List ℕ) → IsCell kinds.Int v → int_at (field_of v ++ rest) ≡ Ok (v, rest)
-unfolding int_at
-int_again Null rest h = absurd h.0
-int_again (Big n) rest h = absurd h.0
-int_again (Text bytes) rest h = absurd h.0
-int_again (Int z) rest h =
-    let n : ℕ = cast_unsigned w32 z in
-    ap (λ (b : Bool). cond b (err (number 4 n ++ rest)) (ok (Int (cast_signed w32 (number_in 4 (number 4 n ++ rest)))) (drop 4 (number 4 n ++ rest)))) (long_enough 4 n rest)
-    ∙ (λ i. ok (Int (cast_signed w32 (number_in-number 4 n rest (int_below z h.1) i))) (behind 4 n rest i))
-    ∙ ap (λ (x : ℤ). ok (Int x) rest) (to_z-of_z w32 z h.1)
-
-int_stays : (bytes rest : List ℕ) → int_at bytes ≡ Err rest → rest ≡ bytes
-unfolding int_at
-int_stays bytes rest e = refused (nat_lt (length bytes) 4) bytes (Int (cast_signed w32 (number_in 4 bytes))) (drop 4 bytes) rest e
+int_field : (v : Value) → IsCell kinds.Int v → field_of v ≡ number 4 (int_number v)
+int_field Null h = absurd h.0
+int_field (Big z) h = absurd h.0
+int_field (Text bytes) h = absurd h.0
+int_field (Int z) h = refl
 
 zero_fits : FitsSigned w32 (pos 0)
 zero_fits = search rules
 
 IsField-int : IsField (IsCell kinds.Int) field_of int_at
-IsField-int = record { some = Int (pos 0); some_fits = (tt, zero_fits); takes = int_takes; again = int_again; stays = int_stays }
+IsField-int = field_through (λ n. n < 256 ^ 4) (number 4) (number_at 4) (IsCell kinds.Int) field_of int_of int_number (IsField-number 4) (record { some = Int (pos 0); some_fits = (tt, zero_fits); takes = int_takes; again = int_again; field_is = int_field })
 
 -- ---- BIGINT
+
+abbrev big_number : Value → ℕ
+big_number Null = 0
+big_number (Int z) = 0
+big_number (Big z) = cast_unsigned w64 z
+big_number (Text bytes) = 0
+
+abbrev big_of : ℕ → Option Value
+big_of n = Some (Big (cast_signed w64 n))
+
+big_takes : (n : ℕ) (v : Value) → n < 256 ^ 8 → big_of n ≡ Some v → IsCell kinds.Big v × (n ≡ big_number v)
+big_takes n v fits e =
+    let small : n < 2 ^ 64 = fits in
+    let same : n ≡ cast_unsigned w64 (cast_signed w64 n) = sym (of_z-to_z w64 n small) in
+    let is : Big (cast_signed w64 n) ≡ v = same_Some (Big (cast_signed w64 n)) v e in
+    (subst (IsCell kinds.Big) is (tt, sfits_to_z (Fits-of_lt small)), same ∙ ap big_number is)
 
 big_below : (z : ℤ) → FitsSigned w64 z → cast_unsigned w64 z < 2 ^ 64
 big_below z h = grind (arith)
 
-big_takes : (bytes : List ℕ) (v : Value) (rest : List ℕ) → IsBytes bytes → big_at bytes ≡ Ok (v, rest) → IsCell kinds.Big v × (bytes ≡ field_of v ++ rest)
-unfolding big_at
-big_takes bytes v rest h e =
-    let n : ℕ = number_in 8 bytes in
-    let g = passed (nat_lt (length bytes) 8) bytes (Big (cast_signed w64 n)) (drop 8 bytes) v rest e in
-    let long : 8 ≤ length bytes = ltb-false _ _ g.0 in
-    let small : n < 2 ^ 64 = number_in-lt 8 bytes h in
-    let same : n ≡ cast_unsigned w64 (cast_signed w64 n) = sym (of_z-to_z w64 n small) in
-    (subst (IsCell kinds.Big) g.1 (tt, sfits_to_z (Fits-of_lt small)), front 8 bytes long h ∙ (λ i. number 8 (same i) ++ drop 8 bytes) ∙ (λ i. field_of (g.1 i) ++ g.2 i))
+big_again : (v : Value) → IsCell kinds.Big v → (big_number v < 256 ^ 8) × (big_of (big_number v) ≡ Some v)
+big_again Null h = absurd h.0
+big_again (Int z) h = absurd h.0
+big_again (Text bytes) h = absurd h.0
+big_again (Big z) h = (big_below z h.1, ap (λ (x : ℤ). Some (Big x)) (to_z-of_z w64 z h.1))
 
-big_again : (v : Value) (rest : List ℕ) → IsCell kinds.Big v → big_at (field_of v ++ rest) ≡ Ok (v, rest)
-unfolding big_at
-big_again Null rest h = absurd h.0
-big_again (Int n) rest h = absurd h.0
-big_again (Text bytes) rest h = absurd h.0
-big_again (Big z) rest h =
-    let n : ℕ = cast_unsigned w64 z in
-    ap (λ (b : Bool). cond b (err (number 8 n ++ rest)) (ok (Big (cast_signed w64 (number_in 8 (number 8 n ++ rest)))) (drop 8 (number 8 n ++ rest)))) (long_enough 8 n rest)
-    ∙ (λ i. ok (Big (cast_signed w64 (number_in-number 8 n rest (big_below z h.1) i))) (behind 8 n rest i))
-    ∙ ap (λ (x : ℤ). ok (Big x) rest) (to_z-of_z w64 z h.1)
-
-big_stays : (bytes rest : List ℕ) → big_at bytes ≡ Err rest → rest ≡ bytes
-unfolding big_at
-big_stays bytes rest e = refused (nat_lt (length bytes) 8) bytes (Big (cast_signed w64 (number_in 8 bytes))) (drop 8 bytes) rest e
+big_field : (v : Value) → IsCell kinds.Big v → field_of v ≡ number 8 (big_number v)
+big_field Null h = absurd h.0
+big_field (Int z) h = absurd h.0
+big_field (Text bytes) h = absurd h.0
+big_field (Big z) h = refl
 
 zero_fits_big : FitsSigned w64 (pos 0)
 zero_fits_big = search rules
 
 IsField-big : IsField (IsCell kinds.Big) field_of big_at
-IsField-big = record { some = Big (pos 0); some_fits = (tt, zero_fits_big); takes = big_takes; again = big_again; stays = big_stays }
+IsField-big = field_through (λ n. n < 256 ^ 8) (number 8) (number_at 8) (IsCell kinds.Big) field_of big_of big_number (IsField-number 8) (record { some = Big (pos 0); some_fits = (tt, zero_fits_big); takes = big_takes; again = big_again; field_is = big_field })
 
 -- ---- VARCHAR
 
@@ -153,62 +123,40 @@ IsText-back max text h =
     let short : nat_le (length text) max ≡ true = grind (arith, nat_tests) in
     (λ i. short i && list_all is_text_byte text) ∙ list_all-from_AllPass is_text_byte text h.each
 
+abbrev text_in : Value → List ℕ
+text_in Null = []
+text_in (Int z) = []
+text_in (Big z) = []
+text_in (Text bytes) = bytes
+
+-- what passes a test tells a value
+told_by : (b : Bool) (v w : Value) → cond b (Some v) None ≡ Some w → (b ≡ true) × (v ≡ w)
+told_by true v w e = (refl, same_Some v w e)
+told_by false v w e = absurd (none-some w e)
+
 module _ (max : ℕ) where
-  abbrev IsTextCell : Value → Type 0
-  IsTextCell = IsCell (kinds.Text max)
+  text_takes : (text : List ℕ) (v : Value) → length text < 2 ^ 16 → text_value max text ≡ Some v → IsCell (kinds.Text max) v × (text ≡ text_in v)
+  text_takes text v fits e =
+      let told = told_by (is_text max text) (Text text) v e in
+      (subst (IsCell (kinds.Text max)) told.1 (IsText-true max text told.0, fits), ap text_in told.1)
 
-  text_takes : (bytes : List ℕ) (v : Value) (rest : List ℕ) → IsBytes bytes → text_at max bytes ≡ Ok (v, rest) → IsCell (kinds.Text max) v × (bytes ≡ field_of v ++ rest)
-  unfolding text_at
-  text_takes bytes v rest h e =
-      let n : ℕ = number_in 2 bytes in
-      let text : List ℕ = take n (drop 2 bytes) in
-      let two = passed_to (nat_lt (length bytes) 2) bytes (text_of max n bytes) (v, rest) e in
-      let long : 2 ≤ length bytes = ltb-false _ _ two.0 in
-      let g = passed (nat_lt (length bytes) (2 + n) || not (is_text max text)) bytes (Text text) (drop n (drop 2 bytes)) v rest two.1 in
-      let parts = neither (nat_lt (length bytes) (2 + n)) (not (is_text max text)) g.0 in
-      let whole : 2 + n ≤ length bytes = ltb-false _ _ parts.0 in
-      let len : length text ≡ n = omega (arith, length-take n (drop 2 bytes), length-drop 2 bytes) in
-      let small : n < 2 ^ 16 = number_in-lt 2 bytes h in
-      let spelled : bytes ≡ field_of (Text text) ++ drop n (drop 2 bytes) =
-      front 2 bytes long h ∙ ap (λ (bs : List ℕ). number 2 n ++ bs) (sym (take-append-drop n (drop 2 bytes)))
-      ∙ ap (λ (m : ℕ). number 2 m ++ (text ++ drop n (drop 2 bytes))) (sym len) ∙ sym (append_assoc (number 2 (length text)) text (drop n (drop 2 bytes))) in
-      (subst (IsCell (kinds.Text max)) g.1 (IsText-true max text (not_not (is_text max text) parts.1), omega (arith, len, small)), spelled ∙ (λ i. field_of (g.1 i) ++ g.2 i))
+  text_again : (v : Value) → IsCell (kinds.Text max) v → (length (text_in v) < 2 ^ 16) × (text_value max (text_in v) ≡ Some v)
+  text_again Null h = absurd h.0
+  text_again (Int z) h = absurd h.0
+  text_again (Big z) h = absurd h.0
+  text_again (Text text) h = (h.1, ap (λ (b : Bool). cond b (Some (Text text)) None) (IsText-back max text h.0))
 
-  read_text : (bytes text rest : List ℕ) → nat_lt (length bytes) 2 ≡ false → number_in 2 bytes ≡ length text → drop 2 bytes ≡ text ++ rest → (nat_lt (length bytes) (2 + length text) || not (is_text max text)) ≡ false → text_at max bytes ≡ Ok (Text text, rest)
-  unfolding text_at
-  read_text bytes text rest long is back fits =
-      ap (λ (b : Bool). cond b (err bytes) (text_of max (number_in 2 bytes) bytes)) long
-      ∙ ap (λ (n : ℕ). text_of max n bytes) is
-      ∙ ap (λ (ds : List ℕ). cond (nat_lt (length bytes) (2 + length text) || not (is_text max (take (length text) ds))) (err bytes) (ok (Text (take (length text) ds)) (drop (length text) ds))) back
-      ∙ (λ i. cond (nat_lt (length bytes) (2 + length text) || not (is_text max (take_at text rest (length text) refl i))) (err bytes) (ok (Text (take_at text rest (length text) refl i)) (drop_at text rest (length text) refl i)))
-      ∙ ap (λ (b : Bool). cond b (err bytes) (ok (Text text) rest)) fits
-
-  text_again : (v : Value) (rest : List ℕ) → IsCell (kinds.Text max) v → text_at max (field_of v ++ rest) ≡ Ok (v, rest)
-  text_again Null rest h = absurd h.0
-  text_again (Int n) rest h = absurd h.0
-  text_again (Big n) rest h = absurd h.0
-  text_again (Text text) rest h =
-      let bytes : List ℕ = number 2 (length text) ++ (text ++ rest) in
-      let whole : nat_lt (length bytes) (2 + length text) ≡ false =
-      le-ltb (length bytes) (2 + length text) (omega (arith, length-append (number 2 (length text)) (text ++ rest), length-number 2 (length text), length-append text rest)) in
-      let good : is_text max text ≡ true = IsText-back max text h.0 in
-      ap (text_at max) (append_assoc (number 2 (length text)) text rest)
-      ∙ read_text bytes text rest (long_enough 2 (length text) (text ++ rest)) (number_in-number 2 (length text) (text ++ rest) h.1) (behind 2 (length text) (text ++ rest)) (λ i. whole i || not (good i))
-
-  text_stays : (bytes rest : List ℕ) → text_at max bytes ≡ Err rest → rest ≡ bytes
-  unfolding text_at
-  text_stays bytes rest e = elim (cases_Bool (nat_lt (length bytes) 2)) [
-    | inl short ↦ sym (err_from {X = Value} bytes rest (sym (ap (λ (b : Bool). cond b (err bytes) (text_of max (number_in 2 bytes) bytes)) short) ∙ e))
-    | inr long ↦
-        refused (nat_lt (length bytes) (2 + number_in 2 bytes) || not (is_text max (take (number_in 2 bytes) (drop 2 bytes)))) bytes (Text (take (number_in 2 bytes) (drop 2 bytes))) (drop (number_in 2 bytes) (drop 2 bytes)) rest
-        (sym (ap (λ (b : Bool). cond b (err bytes) (text_of max (number_in 2 bytes) bytes)) long) ∙ e)
-  ]
+  text_field : (v : Value) → IsCell (kinds.Text max) v → field_of v ≡ sized (text_in v)
+  text_field Null h = absurd h.0
+  text_field (Int z) h = absurd h.0
+  text_field (Big z) h = absurd h.0
+  text_field (Text text) h = refl
 
   no_text : IsText max []
   no_text = record { short = omega arith; each = AllPass-from_list_all is_text_byte [] refl }
 
   IsField-text : IsField (IsCell (kinds.Text max)) field_of (text_at max)
-  IsField-text = record { some = Text []; some_fits = (no_text, lit< tt); takes = text_takes; again = text_again; stays = text_stays }
+  IsField-text = field_through (λ (text : List ℕ). length text < 2 ^ 16) sized sized_at (IsCell (kinds.Text max)) field_of (text_value max) text_in IsField-sized (record { some = Text []; some_fits = (no_text, lit< tt); takes = text_takes; again = text_again; field_is = text_field })
 
 pub IsField-value : (kind : ColType) → IsField (IsCell kind) field_of (value_at kind)
 IsField-value kinds.Int = IsField-int

@@ -1,4 +1,3 @@
-pub mod Numbers
 pub mod BitLemmas
 pub mod FieldLemmas
 pub mod RowLemmas

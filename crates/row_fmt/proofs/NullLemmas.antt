@@ -10,9 +10,10 @@ use Rattle.page_base.specs.Reading.{Read, ◌>>=◌}
 use Rattle.page_base.specs.declared.value.Value.{Value}
 use Rattle.page_base.proofs.FormatLemmas.{ok, read_is}
 use Rattle.page_base.proofs.TimesLoop.{with_front}
-use Rattle.row_fmt.specs.declared.reader.Stop.{Stop}
-use Rattle.row_fmt.specs.declared.reader.Stop.TheVariants as stop
-use Rattle.row_fmt.specs.Reading.{Fails, may_be_null, bits_of, group_at, nulls_at, null_bits, null_bit, cell_at, values_at}
+use Rattle.byte_fields.specs.declared.stop.Stop.{Stop}
+use Rattle.byte_fields.specs.declared.stop.Stop.TheVariants as stop
+use Rattle.byte_fields.specs.Answers.{Fails}
+use Rattle.row_fmt.specs.Reading.{may_be_null, bits_of, group_at, nulls_at, null_bits, null_bit, cell_at, values_at}
 use Rattle.row_fmt.proofs.BitLemmas.{length-bits_of}
 
 -- eight elements, or all of fewer

@@ -10,10 +10,10 @@ use Rattle.std.proofs.lemmas.List.Concat.{flat_map-append}
 use Rattle.page_base.specs.declared.column.Column.{Column}
 use Rattle.page_base.specs.declared.value.Value.{Value}
 use Rattle.page_base.specs.declared.value.Value.TheVariants.{Null, Int, Big, Text}
-use Rattle.row_fmt.specs.Numbers.{number}
+use Rattle.byte_fields.specs.Numbers.{number}
 use Rattle.row_fmt.specs.Rows.{is_null, bit_fields, null_bytes, value_field, row_bytes}
 use Rattle.row_fmt.specs.Keys.{Part, placed, key_parts, key_bytes}
-use Rattle.row_fmt.proofs.Numbers.{length-number}
+use Rattle.byte_fields.proofs.Numbers.{length-number}
 
 pub int_size : (z : ℤ) → length (concat (value_field (Int z))) ≡ 4
 int_size z = omega (arith, length-append (number 4 (cast_unsigned w32 z)) [], length-number 4 (cast_unsigned w32 z))

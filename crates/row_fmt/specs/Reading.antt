@@ -1,5 +1,5 @@
 -- Reading a row field by field, up to the first wrong one.
-use Rattle.std.specs.Prelude.{◌≡◌, ⊤, ℕ, zero, suc, ◌+◌, ◌/◌, ◌%◌, ◌^◌, ◌==◌, ◌&&◌, ◌||◌, Bool, true, false, not, nat_lt, nat_le, if◌then◌else◌, List, [], ◌∷◌, ◌++◌, length, take, drop, slice_index, Result, Ok, Err}
+use Rattle.std.specs.Prelude.{ℕ, zero, suc, ◌/◌, ◌%◌, ◌^◌, ◌==◌, ◌&&◌, ◌||◌, Bool, true, false, nat_le, if◌then◌else◌, List, [], ◌∷◌, ◌++◌, length, take, drop, slice_index, Option, Some, None, Ok, Err}
 use Rattle.std.specs.Int.{w32, w64, cast_signed}
 use Rattle.std.specs.List.{list_all}
 use Rattle.page_base.specs.declared.column.Column.{Column}
@@ -8,20 +8,8 @@ use Rattle.page_base.specs.declared.column.ColType.TheVariants as kinds
 use Rattle.page_base.specs.declared.value.Value.{Value}
 use Rattle.page_base.specs.declared.value.Value.TheVariants.{Null, Int, Big, Text}
 use Rattle.page_base.specs.Reading.{Read, ◌>>=◌}
-use Rattle.row_fmt.specs.declared.reader.Stop.{Stop}
-use Rattle.row_fmt.specs.declared.reader.Stop.TheVariants as stop
-use Rattle.row_fmt.specs.Numbers.{number_in}
+use Rattle.byte_fields.specs.Reading.{number_at, sized_at, through}
 use Rattle.row_fmt.specs.Rows.{is_text_byte, null_bytes}
-
--- what a function refused, and what it left, is what reading gives, unless memory ran out
-abbrev pub Fails : {Y : Type 0} → Stop → List ℕ → Read Y → Type 0
-Fails stop.Form rest read = read ≡ Err rest
-Fails stop.Memory rest read = ⊤
-
--- the same of an answer: the value that was read, or the field at which reading stopped
-abbrev pub Gives : {X Y : Type 0} → (X → Y) → Result X Stop → List ℕ → Read Y → Type 0
-Gives view (Ok x) rest read = read ≡ Ok (view x, rest)
-Gives view (Err e) rest read = Fails e rest read
 
 -- each bit that is set is that of a column that may be NULL
 abbrev pub may_be_null : List Column → ℕ → Bool
@@ -53,25 +41,23 @@ null_bits (suc n) columns (b ∷ bytes) = bits_of (length (take 8 columns)) b ++
 abbrev pub null_bit : List ℕ → ℕ → Bool
 null_bit bytes i = slice_index bytes (i / 8) / 2 ^ (i % 8) % 2 == 1
 
--- an INT
-unfoldable pub int_at : List ℕ → Read Value
-int_at bytes = if nat_lt (length bytes) 4 then Err bytes else Ok (Int (cast_signed w32 (number_in 4 bytes)), drop 4 bytes)
+-- an INT, and a BIGINT
+abbrev pub int_at : List ℕ → Read Value
+int_at = through (λ n. Some (Int (cast_signed w32 n))) (number_at 4)
 
--- a BIGINT
-unfoldable pub big_at : List ℕ → Read Value
-big_at bytes = if nat_lt (length bytes) 8 then Err bytes else Ok (Big (cast_signed w64 (number_in 8 bytes)), drop 8 bytes)
+abbrev pub big_at : List ℕ → Read Value
+big_at = through (λ n. Some (Big (cast_signed w64 n))) (number_at 8)
 
 -- a text of at most so many bytes
 abbrev pub is_text : ℕ → List ℕ → Bool
 is_text max text = nat_le (length text) max && list_all is_text_byte text
 
--- the text of this length behind two bytes
-abbrev pub text_of : ℕ → ℕ → List ℕ → Read Value
-text_of max n bytes = if nat_lt (length bytes) (2 + n) || not (is_text max (take n (drop 2 bytes))) then Err bytes else Ok (Text (take n (drop 2 bytes)), drop n (drop 2 bytes))
+-- the value that such a text is
+abbrev pub text_value : ℕ → List ℕ → Option Value
+text_value max text = if is_text max text then Some (Text text) else None
 
--- a text and its length
-unfoldable pub text_at : ℕ → List ℕ → Read Value
-text_at max bytes = if nat_lt (length bytes) 2 then Err bytes else text_of max (number_in 2 bytes) bytes
+abbrev pub text_at : ℕ → List ℕ → Read Value
+text_at max = through (text_value max) sized_at
 
 -- a value that isn't NULL
 abbrev pub value_at : ColType → List ℕ → Read Value

@@ -7,7 +7,8 @@ use Rattle.page_base.specs.declared.column.ColType.{ColType}
 use Rattle.page_base.specs.declared.column.ColType.TheVariants as kinds
 use Rattle.page_base.specs.declared.value.Value.{Value}
 use Rattle.page_base.specs.declared.value.Value.TheVariants.{Null, Int, Big, Text}
-use Rattle.row_fmt.specs.Numbers.{number}
+use Rattle.byte_fields.specs.Fields.{sized}
+use Rattle.byte_fields.specs.Numbers.{number}
 
 -- a byte from the space to `~`
 abbrev pub is_text_byte : ℕ → Bool
@@ -83,7 +84,7 @@ abbrev pub value_field : Value → List (List ℕ)
 value_field Null = []
 value_field (Int n) = number 4 (cast_unsigned w32 n) ∷ []
 value_field (Big n) = number 8 (cast_unsigned w64 n) ∷ []
-value_field (Text bytes) = (number 2 (length bytes) ++ bytes) ∷ []
+value_field (Text bytes) = sized bytes ∷ []
 
 -- which values are NULL, and then the values that aren't
 abbrev pub row_fields : List Value → List (List ℕ)

@@ -6,7 +6,8 @@ ghost use Rattle.row_fmt.specs.Rows.{IsRow};
 ghost use Rattle.row_fmt.specs.Answers.{GivesRow, Refuses};
 
 use crate::RowRefusal;
-use crate::reader::{Reader, Stop};
+use crate::reader::read_row;
+use byte_fields::{Reader, Stop};
 use page_base::{Columns, Row};
 use std::alloc::Global;
 
@@ -22,18 +23,18 @@ pub fn decode(alloc: Global, bytes: &[u8], cols: &Columns) -> Result<Row, RowRef
     ensures refused { IfErr result (Refuses cols.now bytes.now) }
 {
     let mut reader = Reader::new(bytes);
-    match reader.row(alloc, cols.as_slice()) {
+    match read_row(&mut reader, alloc, cols.as_slice()) {
         Ok(row) => {
             if !reader.is_empty() {
-                let at = bytes.len() - reader.len();
-                return Err(RowRefusal::Form { at: at as u32 });
+                return Err(RowRefusal::Form {
+                    at: reader.place(bytes) as u32,
+                });
             }
             Ok(row)
         }
-        Err(Stop::Form) => {
-            let at = bytes.len() - reader.len();
-            Err(RowRefusal::Form { at: at as u32 })
-        }
+        Err(Stop::Form) => Err(RowRefusal::Form {
+            at: reader.place(bytes) as u32,
+        }),
         Err(Stop::Memory) => Err(RowRefusal::Memory),
     }
 }

@@ -2,11 +2,11 @@
 
 ghost use Rattle.std.specs.Prelude.{◌≡◌, ◌++◌, ◌≤◌, ◌<◌, ◌^◌, length, map, take, IfOk, OnOk};
 ghost use Rattle.std.specs.List.{concat, flat_map, AllByRecursion};
-ghost use Rattle.row_fmt.specs.Numbers.{number};
+ghost use Rattle.byte_fields.specs.Fields.{sized};
 ghost use Rattle.row_fmt.specs.Rows.{MayStand, FitsColumns, InRange, is_null, bits_number, bit_fields, null_bytes, value_field, IsRow};
 
 use crate::sizes::{null_bytes, size};
-use byteorder::{ByteOrder, LittleEndian};
+use byte_fields::{put_text, put_u32, put_u64};
 use page_base::{Bytes, ColType, Column, Columns, NoMemory, Row, Value};
 use std::alloc::Global;
 
@@ -48,39 +48,26 @@ fn put_nulls(out: &mut Vec<u8>, row: &[Value]) -> Result<(), NoMemory>
     Ok(())
 }
 
-#[tactic(auto, unfolding(crate::specs::Numbers::number))]
 fn put_int(out: &mut Vec<u8>, n: i32) -> Result<(), NoMemory>
     ensures { OnOk result (out.new.items ≡ out.old.items ++ concat (value_field (Value.Int n))) }
 {
-    let mut bytes = [0u8; 4];
-    LittleEndian::write_i32(&mut bytes, n);
-    out.extend_from_slice(&bytes)?;
-    Ok(())
+    put_u32(out, n.cast_unsigned())
 }
 
-#[tactic(auto, unfolding(crate::specs::Numbers::number))]
 fn put_big(out: &mut Vec<u8>, n: i64) -> Result<(), NoMemory>
     ensures { OnOk result (out.new.items ≡ out.old.items ++ concat (value_field (Value.Big n))) }
 {
-    let mut bytes = [0u8; 8];
-    LittleEndian::write_i64(&mut bytes, n);
-    out.extend_from_slice(&bytes)?;
-    Ok(())
+    put_u64(out, n.cast_unsigned())
 }
 
 // Appends a text of at most so many bytes behind its length.
-#[tactic(auto, unfolding(crate::specs::Numbers::number))]
-fn put_text(out: &mut Vec<u8>, text: &[u8], max: u16) -> Result<(), NoMemory>
+fn put_varchar(out: &mut Vec<u8>, text: &[u8], max: u16) -> Result<(), NoMemory>
     requires { length text.now ≤ max }
-    ensures bytes { OnOk result (out.new.items ≡ out.old.items ++ (number 2 (length text.now) ++ text.now)) }
+    ensures bytes { OnOk result (out.new.items ≡ out.old.items ++ sized text.now) }
     ensures range { length text.now < 2 ^ 16 }
 {
     prove!(text.len() <= max as usize);
-    let mut bytes = [0u8; 2];
-    LittleEndian::write_u16(&mut bytes, text.len() as u16);
-    out.extend_from_slice(&bytes)?;
-    out.extend_from_slice(text)?;
-    Ok(())
+    put_text(out, text)
 }
 
 // Appends the field of a value that may stand in a column, where it has one.
@@ -92,7 +79,7 @@ fn put_value(out: &mut Vec<u8>, value: &Value, column: &Column) -> Result<(), No
     match (value, column.kind) {
         (Value::Int(n), _) => put_int(out, *n),
         (Value::Big(n), _) => put_big(out, *n),
-        (Value::Text(text), ColType::Text { max }) => put_text(out, text.as_slice(), max),
+        (Value::Text(text), ColType::Text { max }) => put_varchar(out, text.as_slice(), max),
         _ => Ok(()),
     }
 }

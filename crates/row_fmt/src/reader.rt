@@ -1,60 +1,15 @@
-//! The fields of a row, read from the front of bytes; a reader stands at the first byte that isn't read yet.
+//! The fields of a row, read from the front of bytes: which columns are NULL, then a value for each of the others.
 
-ghost use Rattle.std.specs.Prelude.{◌≡◌, ◌≤◌, ◌<◌, ◌*◌, ◌/◌, ◌↔◌, [], length, take, IsTrue, IfOk};
+ghost use Rattle.std.specs.Prelude.{◌≡◌, ◌<◌, ◌/◌, length, take, IfOk};
 ghost use Rattle.std.specs.List.{list_all};
 ghost use Rattle.row_fmt.specs.Rows.{is_text_byte, null_bytes};
-ghost use Rattle.row_fmt.specs.Reading.{Gives, may_be_null, bits_of, group_at, nulls_at, null_bits, null_bit, int_at, big_at, is_text, text_at, cell_at, values_at, row_at};
+ghost use Rattle.byte_fields.specs.Answers.{Gives};
+ghost use Rattle.row_fmt.specs.Reading.{may_be_null, bits_of, group_at, nulls_at, null_bits, null_bit, int_at, big_at, is_text, text_at, cell_at, values_at, row_at};
 
 use crate::sizes::null_bytes;
-use byteorder::{ByteOrder, LittleEndian};
+use byte_fields::{Reader, Stop};
 use page_base::{Bytes, ColType, Column, Row, Value};
-use std::alloc::{AllocError, AllocFailed, Global};
-use std::marker::Model;
-
-// Why a field isn't read.
-#[derive(Clone, Copy, Debug, PartialEq, Eq)]
-pub(crate) enum Stop {
-    // When the field breaks a rule of the format or is cut short; the reader stands at its first byte.
-    Form,
-    // When no memory was found.
-    Memory,
-}
-
-impl From<AllocError> for Stop {
-    ghost use Rattle.std.specs.Prelude.{◌≡◌};
-    ghost use Rattle.row_fmt.specs.declared.reader.Stop.TheVariants.{Memory};
-
-    ghost from_gives = { λ _ stop. stop ≡ Memory };
-
-    fn from(_: AllocError) -> Self {
-        Stop::Memory
-    }
-}
-
-impl<T: Drop> From<AllocFailed<T>> for Stop {
-    ghost use Rattle.std.specs.Prelude.{◌≡◌};
-    ghost use Rattle.row_fmt.specs.declared.reader.Stop.TheVariants.{Memory};
-
-    ghost from_gives = { λ _ stop. stop ≡ Memory };
-
-    fn from(_: AllocFailed<T>) -> Self {
-        Stop::Memory
-    }
-}
-
-// The bytes that are still to be read.
-#[derive(Drop)]
-pub(crate) struct Reader<'a> {
-    rest: &'a [u8],
-}
-
-impl<'a> Model for Reader<'a> {
-    ghost use Rattle.std.specs.Prelude.{List, ℕ};
-
-    ghost Value = { List ℕ };
-
-    ghost view = { λ r. r.rest.now };
-}
+use std::alloc::Global;
 
 // Whether each bit that is set is that of a column that may be NULL.
 fn may_be_null(columns: &[Column], byte: u8) -> bool
@@ -95,129 +50,107 @@ pub(crate) fn is_text(max: u16, text: &[u8]) -> bool
     text.len() <= max as usize && are_text_bytes(text)
 }
 
-impl<'a> Reader<'a> {
-    pub(crate) fn new(bytes: &'a [u8]) -> Self
-        ensures { result ≡ bytes.now }
-    {
-        Reader { rest: bytes }
+// Which of the first eight columns are NULL.
+#[tactic(auto, unfolding(crate::specs::Reading::group_at, byte_fields::specs::Reading::byte_at), using(crate::proofs::NullLemmas::first_eight))]
+fn read_group<'a>(reader: &mut Reader<'a>, columns: &[Column]) -> Result<u8, Stop>
+    ensures { Gives (λ byte. bits_of (length (take 8 columns.now)) byte) result reader.new (group_at (take 8 columns.now) reader.old) }
+{
+    let mut next = reader.again();
+    let byte = next.byte()?;
+    if !may_be_null(&columns[..columns.len().min(8)], byte) {
+        return Err(Stop::Form);
     }
+    *reader = next;
+    Ok(byte)
+}
 
-    // How many bytes are still to be read.
-    pub(crate) fn len(&self) -> usize
-        ensures { result ≡ length self.now }
-    {
-        self.rest.len()
+// The bytes that tell which columns are NULL.
+fn read_nulls<'a>(reader: &mut Reader<'a>, columns: &[Column]) -> Result<&'a [u8], Stop>
+    ensures read { Gives (λ nulls. null_bits (null_bytes (length columns.now)) columns.now nulls.now) result reader.new (nulls_at (null_bytes (length columns.now)) columns.now reader.old) }
+    ensures count { IfOk result (λ nulls. length nulls.now ≡ null_bytes (length columns.now)) }
+{
+    let all = reader.rest();
+    let count = null_bytes(columns.len());
+    for i in 0..count {
+        read_group(reader, &columns[8 * i..])?;
     }
+    Ok(&all[..count])
+}
 
-    // Whether all bytes are read.
-    pub(crate) fn is_empty(&self) -> bool
-        ensures { IsTrue result ↔ (self.now ≡ []) }
-    {
-        self.rest.is_empty()
-    }
+#[tactic(auto, unfolding(byte_fields::specs::Reading::through))]
+fn read_int<'a>(reader: &mut Reader<'a>) -> Result<Value, Stop>
+    ensures { Gives (λ value. value) result reader.new (int_at reader.old) }
+{
+    Ok(Value::Int(reader.u32()?.cast_signed()))
+}
 
-    // Which of the first eight columns are NULL.
-    #[tactic(auto, unfolding(crate::specs::Reading::group_at), using(crate::proofs::NullLemmas::first_eight))]
-    fn group(&mut self, columns: &[Column]) -> Result<u8, Stop>
-        ensures { Gives (λ byte. bits_of (length (take 8 columns.now)) byte) result self.new (group_at (take 8 columns.now) self.old) }
-    {
-        let [byte, rest @ ..] = self.rest else {
-            return Err(Stop::Form);
-        };
-        if !may_be_null(&columns[..columns.len().min(8)], *byte) {
-            return Err(Stop::Form);
-        }
-        self.rest = rest;
-        Ok(*byte)
-    }
+#[tactic(auto, unfolding(byte_fields::specs::Reading::through))]
+fn read_big<'a>(reader: &mut Reader<'a>) -> Result<Value, Stop>
+    ensures { Gives (λ value. value) result reader.new (big_at reader.old) }
+{
+    Ok(Value::Big(reader.u64()?.cast_signed()))
+}
 
-    // The bytes that tell which columns are NULL.
-    fn nulls(&mut self, columns: &[Column]) -> Result<&'a [u8], Stop>
-        ensures read { Gives (λ nulls. null_bits (null_bytes (length columns.now)) columns.now nulls.now) result self.new (nulls_at (null_bytes (length columns.now)) columns.now self.old) }
-        ensures count { IfOk result (λ nulls. length nulls.now ≡ null_bytes (length columns.now)) }
-    {
-        let all = self.rest;
-        let count = null_bytes(columns.len());
-        for i in 0..count {
-            self.group(&columns[8 * i..])?;
-        }
-        Ok(&all[..count])
+#[tactic(auto, unfolding(byte_fields::specs::Reading::through))]
+fn read_text<'a>(reader: &mut Reader<'a>, alloc: Global, max: u16) -> Result<Value, Stop>
+    ensures { Gives (λ value. value) result reader.new (text_at max reader.old) }
+{
+    let mut next = reader.again();
+    let text = next.text()?;
+    if !is_text(max, text) {
+        return Err(Stop::Form);
     }
+    let text = Vec::from_slice(alloc, text)?;
+    *reader = next;
+    Ok(Value::Text(Bytes::from(text)))
+}
 
-    #[tactic(auto, unfolding(crate::specs::Reading::int_at, crate::specs::Numbers::number_in))]
-    fn int(&mut self) -> Result<Value, Stop>
-        ensures { Gives (λ value. value) result self.new (int_at self.old) }
-    {
-        if self.rest.len() < 4 {
-            return Err(Stop::Form);
-        }
-        let number = LittleEndian::read_i32(self.rest);
-        self.rest = &self.rest[4..];
-        Ok(Value::Int(number))
+// What stands in a column.
+fn read_cell<'a>(
+    reader: &mut Reader<'a>,
+    alloc: Global,
+    null: bool,
+    kind: ColType,
+) -> Result<Value, Stop>
+    ensures { Gives (λ value. value) result reader.new (cell_at null kind reader.old) }
+{
+    if null {
+        return Ok(Value::Null);
     }
+    match kind {
+        ColType::Int => read_int(reader),
+        ColType::Big => read_big(reader),
+        ColType::Text { max } => read_text(reader, alloc, max),
+    }
+}
 
-    #[tactic(auto, unfolding(crate::specs::Reading::big_at, crate::specs::Numbers::number_in))]
-    fn big(&mut self) -> Result<Value, Stop>
-        ensures { Gives (λ value. value) result self.new (big_at self.old) }
-    {
-        if self.rest.len() < 8 {
-            return Err(Stop::Form);
-        }
-        let number = LittleEndian::read_i64(self.rest);
-        self.rest = &self.rest[8..];
-        Ok(Value::Big(number))
+// What stands in each column, behind the bytes that tell which are NULL.
+fn read_values<'a>(
+    reader: &mut Reader<'a>,
+    alloc: Global,
+    columns: &[Column],
+    nulls: &[u8],
+) -> Result<Row, Stop>
+    requires { length nulls.now ≡ null_bytes (length columns.now) }
+    ensures { Gives (λ row. row) result reader.new (values_at columns.now (null_bits (null_bytes (length columns.now)) columns.now nulls.now) reader.old) }
+{
+    let mut values = Vec::with_capacity(alloc, columns.len())?;
+    for (i, column) in columns.iter().enumerate() {
+        let value = read_cell(reader, alloc, is_null(nulls, i), column.kind)?;
+        values.push(value)?;
     }
+    Ok(Row::from(values))
+}
 
-    #[tactic(auto, unfolding(crate::specs::Reading::text_at, crate::specs::Numbers::number_in))]
-    fn text(&mut self, alloc: Global, max: u16) -> Result<Value, Stop>
-        ensures { Gives (λ value. value) result self.new (text_at max self.old) }
-    {
-        if self.rest.len() < 2 {
-            return Err(Stop::Form);
-        }
-        let len = LittleEndian::read_u16(self.rest) as usize;
-        if self.rest.len() < 2 + len || !is_text(max, &self.rest[2..2 + len]) {
-            return Err(Stop::Form);
-        }
-        let (text, rest) = self.rest[2..].split_at(len);
-        let text = Vec::from_slice(alloc, text)?;
-        self.rest = rest;
-        Ok(Value::Text(Bytes::from(text)))
-    }
-
-    // What stands in a column.
-    fn cell(&mut self, alloc: Global, null: bool, kind: ColType) -> Result<Value, Stop>
-        ensures { Gives (λ value. value) result self.new (cell_at null kind self.old) }
-    {
-        if null {
-            return Ok(Value::Null);
-        }
-        match kind {
-            ColType::Int => self.int(),
-            ColType::Big => self.big(),
-            ColType::Text { max } => self.text(alloc, max),
-        }
-    }
-
-    // What stands in each column, behind the bytes that tell which are NULL.
-    fn values(&mut self, alloc: Global, columns: &[Column], nulls: &[u8]) -> Result<Row, Stop>
-        requires { length nulls.now ≡ null_bytes (length columns.now) }
-        ensures { Gives (λ row. row) result self.new (values_at columns.now (null_bits (null_bytes (length columns.now)) columns.now nulls.now) self.old) }
-    {
-        let mut values = Vec::with_capacity(alloc, columns.len())?;
-        for (i, column) in columns.iter().enumerate() {
-            let value = self.cell(alloc, is_null(nulls, i), column.kind)?;
-            values.push(value)?;
-        }
-        Ok(Row::from(values))
-    }
-
-    // A row of these columns.
-    #[tactic(auto, unfolding(crate::specs::Reading::row_at))]
-    pub(crate) fn row(&mut self, alloc: Global, columns: &[Column]) -> Result<Row, Stop>
-        ensures { Gives (λ row. row) result self.new (row_at columns.now self.old) }
-    {
-        let nulls = self.nulls(columns)?;
-        self.values(alloc, columns, nulls)
-    }
+// A row of these columns.
+#[tactic(auto, unfolding(crate::specs::Reading::row_at))]
+pub(crate) fn read_row<'a>(
+    reader: &mut Reader<'a>,
+    alloc: Global,
+    columns: &[Column],
+) -> Result<Row, Stop>
+    ensures { Gives (λ row. row) result reader.new (row_at columns.now reader.old) }
+{
+    let nulls = read_nulls(reader, columns)?;
+    read_values(reader, alloc, columns, nulls)
 }

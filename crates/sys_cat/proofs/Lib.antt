@@ -5,3 +5,5 @@ pub mod LineLemmas
 pub mod ParseLemmas
 pub mod ReadLemmas
 pub mod NumberLemmas
+pub mod ColumnLemmas
+pub mod PutLemmas

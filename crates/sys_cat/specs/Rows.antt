@@ -1,11 +1,25 @@
--- The rows of table 0 that tell of one table: one for the table, and one for each of its columns.
-use Rattle.std.specs.Prelude.{ℕ, pos, ◌+◌, ◌*◌, if◌then◌else◌, false, codes, List, [], ◌∷◌}
+-- Table 0: its columns and its root, and its rows that tell of one table: one for the table, and one for each column.
+use Rattle.std.specs.Prelude.{ℕ, false, pos, ◌+◌, ◌*◌, if◌then◌else◌, List, [], ◌∷◌}
 use Rattle.page_base.specs.declared.column.Column.{Column}
 use Rattle.page_base.specs.declared.column.ColType.{ColType}
 use Rattle.page_base.specs.declared.column.ColType.TheVariants as types
+use Rattle.page_base.specs.declared.numbers.PageId.{PageId}
 use Rattle.page_base.specs.declared.value.Value.{Value}
 use Rattle.page_base.specs.declared.value.Value.TheVariants.{Int, Text}
 use Rattle.sys_cat.specs.declared.desc.TableDesc.{TableDesc}
+
+-- page 1 of file 0
+abbrev pub zero_root : PageId
+zero_root = record { file = 0; page = 1 }
+
+-- a column that may not be NULL
+abbrev pub column : List ℕ → ColType → ℕ → Column
+column name kind key = record { name = name; kind = kind; nullable = false; key = key }
+
+-- name and ord, which are the key, text, a, b and c
+unfoldable pub table_0 : List Column
+table_0 = column (110 ∷ 97 ∷ 109 ∷ 101 ∷ []) (types.Text 128) 1 ∷ column (111 ∷ 114 ∷ 100 ∷ []) types.Int 2 ∷ column (116 ∷ 101 ∷ 120 ∷ 116 ∷ []) (types.Text 128) 0
+    ∷ column (97 ∷ []) types.Int 0 ∷ column (98 ∷ []) types.Int 0 ∷ column (99 ∷ []) types.Int 0 ∷ []
 
 -- the number of a column's type
 abbrev pub type_number : ColType → ℕ
@@ -43,14 +57,3 @@ column_rows name ord (c ∷ cs) = column_row name ord c ∷ column_rows name (or
 -- all rows of a table
 abbrev pub rows_of : TableDesc → List (List Value)
 rows_of d = table_row d ∷ column_rows d.name 1 d.cols
-
--- the columns of table 0: the name and the ordinal, which are its key, a text and three numbers
-abbrev pub table_0 : List Column
-table_0 =
-    record { name = codes "name"; kind = types.Text 128; nullable = false; key = 1 }
-    ∷ record { name = codes "ord"; kind = types.Int; nullable = false; key = 2 }
-    ∷ record { name = codes "text"; kind = types.Text 128; nullable = false; key = 0 }
-    ∷ record { name = codes "a"; kind = types.Int; nullable = false; key = 0 }
-    ∷ record { name = codes "b"; kind = types.Int; nullable = false; key = 0 }
-    ∷ record { name = codes "c"; kind = types.Int; nullable = false; key = 0 }
-    ∷ []

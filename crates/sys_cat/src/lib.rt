@@ -1,6 +1,7 @@
 //! Table 0: what its rows say of the other tables.
 #![tactic(auto)]
 
+mod columns;
 mod desc;
 mod growing;
 mod law;
@@ -11,8 +12,9 @@ mod spelling;
 #[cfg(test)]
 mod tests;
 
+pub use columns::{root, zero_columns};
 pub use desc::{DescList, DescRefusal, TableDesc};
-pub use law::rows_and_tables_determine_each_other;
+pub use law::{rows_and_tables_determine_each_other, rows_may_be_put};
 pub use number::next_number;
 pub use reading::descs;
 pub use spelling::rows_of;

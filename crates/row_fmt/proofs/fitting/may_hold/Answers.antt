@@ -1,4 +1,4 @@
-use Rattle.std.proofs.Common.{◌≡◌, Bool, true, ◌∙◌, sym}
+use Rattle.std.proofs.Common.{◌∙◌, sym}
 use Rattle.row_fmt.proofs.FieldLemmas.{IsText-true, IsText-back}
 use Rattle.row_fmt.proofs.fitting.may_hold.Goals as goal
 

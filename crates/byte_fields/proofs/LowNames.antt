@@ -8,7 +8,7 @@ use Rattle.std.proofs.lemmas.Bool.{and_parts, cases_Bool}
 use Rattle.std.proofs.lemmas.Bool.Decides.{nat_tests}
 use Rattle.std.proofs.lemmas.List.Elements.{All-from_recursion, recursion_from_All}
 use Rattle.page_base.specs.Name.{IsLowName, is_name_byte}
-use Rattle.rec_log.specs.Reading.{is_low_byte, is_low_name, low_name}
+use Rattle.byte_fields.specs.Names.{is_low_byte, is_low_name, low_name}
 
 both_true : (a b : Bool) → a ≡ true → b ≡ true → (a && b) ≡ true
 both_true a b p q = ap (λ x. x && b) p ∙ q

@@ -5,7 +5,7 @@ use Rattle.std.specs.Int.{byte_at, bytes_low_first}
 use Rattle.byteorder.specs.Endian.{little_from}
 use Rattle.byteorder.specs.Numbers.{little_from-cons, little_number-reads_back, little_from-lt, length-bytes_low_first}
 use Rattle.page_base.proofs.FormatLemmas.{IsBytes}
-use Rattle.row_fmt.specs.Numbers.{number, number_in}
+use Rattle.byte_fields.specs.Numbers.{number, number_in}
 
 byte_at-pow : (k x : ℕ) → byte_at k x ≡ x / 256 ^ k % 256
 byte_at-pow zero x = ap (λ (y : ℕ). y % 256) (sym (div-one x))

@@ -1,6 +1,0 @@
--- The name that is kept is the one that the test says.
-use Rattle.rec_log.proofs.LowNames.{kept_is}
-use Rattle.rec_log.proofs.reader.low_name.Goals as goal
-
-pub returns : goal.returns
-returns c = kept_is c.args.bytes.now c.kept.result c.kept.ensures
