@@ -1,5 +1,5 @@
 -- What claims make of the owners of pages, and of the pages that tell of them.
-use Rattle.std.proofs.Common.{refl, ◌≡◌, ◌≢◌, ℕ, zero, suc, ◌+◌, ◌-◌, ◌*◌, ◌/◌, ◌%◌, ◌^◌, ◌<◌, ◌≤◌, ◌||◌, List, length, ap, sym, ◌∙◌, subst, arith, Bool, true, false, cond, inl, inr, nat_lt, max}
+use Rattle.std.proofs.Common.{◌&&◌, ◌==◌, eq-eqb, refl, ◌≡◌, ◌≢◌, ℕ, zero, suc, ◌+◌, ◌-◌, ◌*◌, ◌/◌, ◌%◌, ◌^◌, ◌<◌, ◌≤◌, ◌||◌, List, length, ap, sym, ◌∙◌, subst, arith, Bool, true, false, cond, inl, inr, nat_lt, max}
 use Rattle.std.specs.Prelude.{◌⊎◌, slice_index_or}
 use Rattle.std.proofs.lemmas.Bool.{cases_eq, cases_Bool, ltb-true}
 use Rattle.page_base.specs.declared.numbers.PageId.{PageId}
@@ -14,10 +14,10 @@ use Rattle.page_fmt.proofs.SlotLemmas.{length-set_slot}
 use Rattle.alloc_pages.specs.Owners.{owner_in, owner_at, owner_bytes, page_owner}
 use Rattle.alloc_pages.specs.Spots.{spot_of}
 use Rattle.alloc_pages.proofs.OwnerLemmas.{page_owner-same, page_owner-other, owner_in-owner_bytes, owner_in-four}
-use Rattle.table_walk.specs.Plans.{is_claimed}
+use Rattle.table_walk.specs.Plans.{also, is_claimed}
 use Rattle.table_walk.proofs.FillSlots.{edited_some}
-use Rattle.page_tables.specs.Owners.{is_there, owner, span, IsAllocPage, IsSpread}
-use Rattle.page_tables.specs.Writes.{with_claims}
+use Rattle.page_tables.specs.Owners.{is_there, owner, owns, span, IsAllocPage, IsSpread}
+use Rattle.page_tables.specs.Writes.{with_claims, AreClaimable}
 
 -- owners are those of the slots
 pub owner_is : (at : SlotsAt) (q : PageId) → owner at q ≡ page_owner (slots_in at) q
@@ -162,3 +162,27 @@ owners_off at p q slots ne =
   where
     every : (q : PageId) → (spot_of q).page.page % 1280 ≡ 0
     every q = omega arith
+
+-- WHAT A TABLE OWNS
+
+-- once its claims are done a table owns the claimed pages too
+pub owned_claims : (counts : List ℕ) (number : ℕ) (claimed : ℕ → PageId) → number + 1 < 4294967295 → (n : ℕ) (at : SlotsAt) → AreClaimable counts at claimed n → owns counts (with_claims number claimed n at) number ≡ also (owns counts at number) claimed n
+owned_claims counts number claimed small n at c = λ i q. page q i
+  where
+    page : (q : PageId) → owns counts (with_claims number claimed n at) number q ≡ also (owns counts at number) claimed n q
+    page q = elim (cases_Bool (is_claimed claimed n q)) [
+      | inl t ↦
+          let i = claim_of counts number claimed small n q t in
+          let there : is_there counts q ≡ true = ap (is_there counts) (sym i.2) ∙ c.there i.0 i.1 in
+          (λ k. there k && (owners_given counts number claimed small n at q c.differ ∙ ap (λ x. cond x (number + 1) (owner at q)) t) k == number + 1) ∙ eq-eqb (number + 1) (number + 1) refl ∙ sym (ap (λ x. owns counts at number q || x) t ∙ or_true (owns counts at number q))
+      | inr f ↦
+          ap (λ o. is_there counts q && o == number + 1) (owners_given counts number claimed small n at q c.differ ∙ ap (λ x. cond x (number + 1) (owner at q)) f) ∙ sym (ap (λ x. owns counts at number q || x) f ∙ or_false (owns counts at number q))
+    ]
+      where
+        or_true : (x : Bool) → (x || true) ≡ true
+        or_true true = refl
+        or_true false = refl
+
+        or_false : (x : Bool) → (x || false) ≡ x
+        or_false true = refl
+        or_false false = refl

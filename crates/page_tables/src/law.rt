@@ -15,7 +15,7 @@ ghost use Rattle.plain_model.specs.Tables.{Rows, Tables};
 ghost use Rattle.alloc_pages.specs.Owners.{page_owner};
 ghost use Rattle.sys_cat.specs.declared.desc.TableDesc.{TableDesc};
 ghost use Rattle.table_walk.specs.declared.plan.Edit.{Edit};
-ghost use Rattle.table_walk.specs.Plans.{after, is_claimed, Go, Carries};
+ghost use Rattle.table_walk.specs.Plans.{after, also, is_claimed, Go, Carries};
 ghost use Rattle.page_tables.specs.Bases.{AreRowsOf, IsBase};
 ghost use Rattle.page_tables.specs.Layout.{shape, first};
 ghost use Rattle.page_tables.specs.Owners.{is_there, owner, owns, IsAllocPage, IsSpread};
@@ -54,6 +54,7 @@ pub fn tables_depend_on_their_pages()
 /// of no others.
 pub fn claims_give_their_pages()
     ensures owners { (counts : List ℕ) (number : ℕ) (claimed : ℕ → PageId) → number + 1 < 4294967295 → (n : ℕ) (at : SlotsAt) (p : PageId) → ((i j : ℕ) → i < j → j < n → claimed i ≢ claimed j) → owner (with_claims number claimed n at) p ≡ (if is_claimed claimed n p then number + 1 else owner at p) }
+    ensures owned { (counts : List ℕ) (number : ℕ) (claimed : ℕ → PageId) → number + 1 < 4294967295 → (n : ℕ) (at : SlotsAt) → AreClaimable counts at claimed n → owns counts (with_claims number claimed n at) number ≡ also (owns counts at number) claimed n }
     ensures pages { (counts : List ℕ) (number : ℕ) (claimed : ℕ → PageId) → number + 1 < 4294967295 → (n : ℕ) (at : SlotsAt) (p : PageId) → p.page % 1280 ≢ 0 → with_claims number claimed n at p ≡ at p }
 {}
 

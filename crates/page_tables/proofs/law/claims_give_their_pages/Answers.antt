@@ -1,4 +1,4 @@
-use Rattle.page_tables.proofs.OwnerLemmas.{owners_given, pages_kept}
+use Rattle.page_tables.proofs.OwnerLemmas.{owners_given, owned_claims, pages_kept}
 use Rattle.page_tables.proofs.law.claims_give_their_pages.Goals as goal
 
 pub returns-clause-owners : goal.returns-clause-owners
@@ -6,3 +6,6 @@ returns-clause-owners c = owners_given
 
 pub returns-clause-pages : goal.returns-clause-pages
 returns-clause-pages c = pages_kept
+
+pub returns-clause-owned : goal.returns-clause-owned
+returns-clause-owned c = owned_claims
