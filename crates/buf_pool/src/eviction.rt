@@ -4,10 +4,12 @@ ghost use Rattle.std.specs.Prelude.{◌≡◌, ◌<◌, ◌+◌, true, false, Is
 ghost use Rattle.page_base.specs.Pages.{image_at, is_page};
 ghost use Rattle.page_base.specs.declared.numbers.PageId.{PageId};
 ghost use Rattle.page_dev.specs.Faults.{HasCause, total};
+ghost use Rattle.page_dev.specs.Files.{called};
 ghost use Rattle.buf_pool.specs.Pool.{img, pins, is_dirty, IsPooled};
 ghost use Rattle.buf_pool.specs.Order.{order, victim, without, room_made, IsUnpinned};
 ghost use Rattle.buf_pool.specs.Steps.{Stays};
 ghost use Rattle.buf_pool.specs.Refusing.{IsFault, IsRefusedRoom, IsBlocked};
+ghost use Rattle.buf_pool.specs.Calls.{save_calls, room_calls};
 
 use crate::{FetchRefusal, Pool};
 use page_base::{Failed, PageId};
@@ -51,6 +53,7 @@ impl<P: PageFile> Pool<P> {
         ensures stays { Stays self.old self.new }
         ensures entries { self.new.entries ≡ self.old.entries }
         ensures written { IsTrue self.old.files.tells → OnOk result (img self.old p ≡ image_at self.new.files.content p) }
+        ensures calls { self.new.files.calls ≡ called self.old.files.calls p.file }
         ensures cause { HasCause (total self.old.files.failures) (total self.new.files.failures) result }
     {
         let frame = self.frames.peek(&p).unwrap();
@@ -84,6 +87,7 @@ impl<P: PageFile> Pool<P> {
         ensures others { (q : PageId) → is_page p q ≡ false → is_dirty self.new q ≡ is_dirty self.old q }
         ensures pooled { IsPooled self.new p }
         ensures size { length self.new.entries ≡ length self.old.entries }
+        ensures calls { self.new.files.calls ≡ save_calls self.old p }
         ensures cause { HasCause (total self.old.files.failures) (total self.new.files.failures) result }
     {
         if !self.frames.peek(&p).unwrap().dirty {
@@ -102,6 +106,7 @@ impl<P: PageFile> Pool<P> {
         ensures clean { OnOk result (is_dirty self.new p ≡ false) }
         ensures pooled { IsPooled self.new p }
         ensures size { length self.new.entries ≡ length self.old.entries }
+        ensures calls { self.new.files.calls ≡ save_calls self.old p }
         ensures faulty { IfErr result (IsFault self.old self.new) }
     {
         if self.save(p).is_err() {
@@ -119,6 +124,7 @@ impl<P: PageFile> Pool<P> {
         ensures stays { Stays self.old self.new }
         ensures order { OnOk result (order self.new ≡ without p (order self.old)) }
         ensures fewer { OnOk result (length self.new.entries + 1 ≡ length self.old.entries) }
+        ensures calls { self.new.files.calls ≡ save_calls self.old p }
         ensures faulty { IfErr result (IsFault self.old self.new) }
     {
         self.clean(p)?;
@@ -133,6 +139,7 @@ impl<P: PageFile> Pool<P> {
         ensures order { OnOk result (order self.new ≡ room_made self.old) }
         ensures room { OnOk result (length self.new.entries < self.new.frames) }
         ensures free { OnOk result (¬ IsBlocked self.old) }
+        ensures calls { self.new.files.calls ≡ room_calls self.old }
         ensures stuck { IfErr result (IsRefusedRoom self.old self.new) }
     {
         if self.frames.len() < self.frames.cap().get() {

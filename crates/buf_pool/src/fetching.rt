@@ -4,10 +4,12 @@ ghost use Rattle.std.specs.Prelude.{◌≡◌, ◌<◌, ◌^◌, ◌∷◌, None
 ghost use Rattle.page_base.specs.Pages.{image_at};
 ghost use Rattle.page_base.specs.declared.numbers.PageId.{PageId};
 ghost use Rattle.page_fmt.specs.Content.{IsPage};
+ghost use Rattle.page_dev.specs.Files.{called};
 ghost use Rattle.buf_pool.specs.Pool.{frame_of, img, pins, with_pin, IsPooled};
 ghost use Rattle.buf_pool.specs.Order.{order, without, room_made, order_used};
 ghost use Rattle.buf_pool.specs.Steps.{Stays, PinsOnce};
 ghost use Rattle.buf_pool.specs.Refusing.{Refuses, IsReading, IsStuck};
+ghost use Rattle.buf_pool.specs.Calls.{read_calls, ReadingCalls, RefusedCalls};
 
 use crate::{FetchRefusal, Frame, Pool};
 use page_base::{Image, PageId};
@@ -24,6 +26,8 @@ impl<P: PageFile> Pool<P> {
         ensures entries { self.new.entries ≡ self.old.entries }
         ensures bytes { IfOk result (λ image. IsTrue self.new.files.tells → image ≡ image_at self.new.files.content p) }
         ensures page { IfOk result (λ image. IsPage image) }
+        ensures called { OnOk result (self.new.files.calls ≡ called self.old.files.calls p.file) }
+        ensures calls { IfErr result (ReadingCalls self.old self.new p) }
         ensures refused { IfErr result (IsReading self.old self.new p) }
     {
         let mut image = Image::blank(alloc)?;
@@ -47,6 +51,7 @@ impl<P: PageFile> Pool<P> {
         requires page { IsPage image }
         ensures once { OnOk result (PinsOnce p self.old self.new) }
         ensures order { OnOk result (order self.new ≡ p ∷ order self.old) }
+        ensures files { self.new.files ≡ self.old.files }
         ensures same { OnErr result (self.new ≡ self.old) }
         ensures memory { IfErr result (λ refusal. refusal ≡ FetchRefusal.Memory) }
     {
@@ -94,6 +99,8 @@ impl<P: PageFile> Pool<P> {
         ensures stays { OnErr result (Stays self.old self.new) }
         ensures free { OnOk result (¬ IsStuck self.old p) }
         ensures order { OnOk result (order self.new ≡ p ∷ room_made self.old) }
+        ensures called { OnOk result (self.new.files.calls ≡ read_calls self.old p) }
+        ensures calls { IfErr result (RefusedCalls self.old self.new p) }
         ensures refused { IfErr result (Refuses self.old self.new p) }
     {
         self.make_room()?;
@@ -104,7 +111,8 @@ impl<P: PageFile> Pool<P> {
     }
 
     /// Brings in a page, pins it once and makes it the most recently used. What every page shows is as before, and so
-    /// are all pins after a refusal, which comes exactly by its cause. A page in memory needs no call on a file.
+    /// are all pins after a refusal, which comes exactly by its cause. A page in memory needs no call on a file; another
+    /// one is read once, and the page that gives way to it is written once where it is dirty. No call is tried again.
     pub fn fetch(&mut self, alloc: Global, p: PageId) -> Result<(), FetchRefusal>
         requires there { p.page < slice_index self.old.files.counts p.file }
         requires few { pins self.old p < 2 ^ 100 }
@@ -113,6 +121,8 @@ impl<P: PageFile> Pool<P> {
         ensures free { OnOk result (¬ IsStuck self.old p) }
         ensures first { OnOk result (order self.new ≡ order_used self.old p) }
         ensures no_calls { IsPooled self.old p → self.new.files ≡ self.old.files }
+        ensures called { frame_of self.old p ≡ None → OnOk result (self.new.files.calls ≡ read_calls self.old p) }
+        ensures calls { IfErr result (RefusedCalls self.old self.new p) }
         ensures refused { IfErr result (Refuses self.old self.new p) }
     {
         if self.is_pooled(p) {

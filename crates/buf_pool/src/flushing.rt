@@ -7,6 +7,7 @@ ghost use Rattle.page_dev.specs.Faults.{HasCause, total};
 ghost use Rattle.buf_pool.specs.Pool.{is_dirty, IsPinned};
 ghost use Rattle.buf_pool.specs.Order.{order, waiting, IsUnsaved};
 ghost use Rattle.buf_pool.specs.Steps.{Stays};
+ghost use Rattle.buf_pool.specs.Calls.{save_calls, saving_calls};
 
 use crate::{Frame, Pool};
 use page_base::{Failed, PageId};
@@ -44,6 +45,7 @@ impl<P: PageFile> Pool<P> {
         ensures some { IfOk result (λ found. found ≡ is_some (waiting self.old)) }
         ensures clean { OnOk result ((q : PageId) → waiting self.old ≡ Some q → is_dirty self.new q ≡ false) }
         ensures others { (q : PageId) → (waiting self.old ≡ Some q → ⊥) → is_dirty self.new q ≡ is_dirty self.old q }
+        ensures calls { self.new.files.calls ≡ saving_calls self.old (waiting self.old) }
         ensures cause { HasCause (total self.old.files.failures) (total self.new.files.failures) result }
     {
         match self.waiting() {
@@ -60,6 +62,7 @@ impl<P: PageFile> Pool<P> {
         ensures some { IfOk result (λ found. found ≡ is_dirty self.old p) }
         ensures clean { OnOk result (is_dirty self.new p ≡ false) }
         ensures others { (q : PageId) → is_page p q ≡ false → is_dirty self.new q ≡ is_dirty self.old q }
+        ensures calls { self.new.files.calls ≡ save_calls self.old p }
         ensures cause { HasCause (total self.old.files.failures) (total self.new.files.failures) result }
     {
         if !self.is_pooled(p) {

@@ -1,6 +1,6 @@
 //! The pages in memory stand in one list in the order of their last use.
 
-ghost use Rattle.std.specs.Prelude.{◌≡◌, ◌<◌, ◌↔◌, IsTrue, IfOk, IfErr, slice_index};
+ghost use Rattle.std.specs.Prelude.{◌≡◌, ◌<◌, ◌≤◌, ◌↔◌, IsTrue, IfOk, IfErr, length, slice_index};
 ghost use Rattle.page_dev.specs.Faults.{total};
 ghost use Rattle.page_fmt.specs.Content.{IsPage};
 ghost use Rattle.buf_pool.specs.Pool.{unused, img, IsPooled, IsPinned, IsSound};
@@ -56,6 +56,14 @@ impl<P: PageFile> Pool<P> {
         ensures { IsTrue result ↔ IsPooled self.now p }
     {
         self.frames.contains(&p)
+    }
+
+    /// How many pages are in memory: never more than the pool has frames.
+    pub fn pages_in_memory(&self) -> usize
+        ensures is { result ≡ length self.now.entries }
+        ensures few { result ≤ self.now.frames }
+    {
+        self.frames.len()
     }
 
     /// The image of a pinned page.

@@ -7,7 +7,7 @@ use Rattle.page_base.specs.declared.column.Column.{Column}
 use Rattle.plain_model.specs.Tables.{Rows, key_of}
 use Rattle.table_walk.proofs.RowsLemmas.{Key, same_key, ties, itself, no_Some, same_Some}
 use Rattle.table_heap.specs.Leaves.{Leaf, ByKeys, rows_in, all_rows}
-use Rattle.table_heap.specs.Planning.{MayPut}
+use Rattle.table_walk.specs.Tables.{MayPut}
 use Rattle.table_heap.specs.Places.{AreApart, AreRows, row_at}
 use Rattle.table_heap.proofs.LeafLemmas.{is_there, is_there-append, not_there}
 

@@ -18,7 +18,7 @@ use Rattle.row_fmt.proofs.SizeLemmas.{row_size}
 use Rattle.table_walk.proofs.RowsLemmas.{Key, same_key, ties, itself, no_Some, same_Some}
 use Rattle.table_heap.specs.declared.places.Place.{Place}
 use Rattle.table_heap.specs.Leaves.{Leaf, cell, slots_of, fits, trimmed, cut, cut_keys, has_room, swap, added, add, put, put_rows}
-use Rattle.table_heap.specs.Planning.{MayPut}
+use Rattle.table_walk.specs.Tables.{MayPut}
 use Rattle.table_heap.specs.Places.{IsFirstEmpty, IsKeyAt, IsDraft, IsPlaceFor, LacksRoom, AreRows, AreApart, IsSoFar, IsBefore, Index, row_at}
 use Rattle.table_heap.proofs.PlaceLemmas.{Row, Updates, IsFull, OnlyAt, NoneAt, AddsAt, cell_at, slots_set, slots_trimmed, within, cut_is, cut_none, cut_updates, swap_is, swap_updates, room_is, room_none, added_is, add_is, add_last, set_leaf, leaf_within, more_at, fits_true, fits_false}
 use Rattle.table_heap.proofs.SlotsLemmas.{set_within}

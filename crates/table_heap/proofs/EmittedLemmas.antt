@@ -12,7 +12,7 @@ use Rattle.table_walk.specs.declared.plan.Edit.{Edit}
 use Rattle.table_walk.specs.declared.plan.Spot.{Spot}
 use Rattle.table_walk.specs.declared.plan.Spot.TheVariants.{Old, New}
 use Rattle.table_walk.specs.Addresses.{IsTarget}
-use Rattle.table_walk.specs.Plans.{place, after, Go, AreFree, AreWithin}
+use Rattle.table_walk.specs.Plans.{place, after, Go, AreFree, IsOtherSlot, AreWithin}
 use Rattle.table_walk.specs.Walk.{Reaches}
 use Rattle.table_heap.specs.declared.growing.RootPage.{RootPage}
 use Rattle.table_heap.specs.Emission.{leaf_spots, Makes, MakesAll}
@@ -24,7 +24,7 @@ use Rattle.table_heap.proofs.GrowChain.{NamedBefore, named_before, AreTargets}
 use Rattle.table_heap.proofs.GrowEdits.{Turns, turns_plain}
 use Rattle.table_heap.proofs.GrowRoot.{root_turns}
 use Rattle.table_heap.proofs.GrowTable.{last_page}
-use Rattle.table_heap.proofs.InTurn.{InTurn, go_in_turn, pairs_append, AreApartEdits}
+use Rattle.table_heap.proofs.InTurn.{InTurn, go_in_turn, pairs_append}
 use Rattle.table_heap.proofs.ShapeLemmas.{times_append, one_here, none_here}
 
 -- LISTS OF PAGES
@@ -93,6 +93,14 @@ module _ (claimed : ℕ → PageId) where
       news (j ∷ js) = ap (λ ps. claimed j ∷ ps) (news js)
   spots_pages (x ∷ xs) lc = ap (λ ps. x ∷ ps) (spots_pages xs lc)
 
+-- the page of a leaf is one of the leaves afterwards
+pub spot_there : (claimed : ℕ → PageId) (xs : List PageId) (lc : List ℕ) (k : ℕ) (s : Spot) → k < length xs + length lc → 1 ≤ times (place claimed (get_or (leaf_spots xs lc) k s)) (xs ++ map claimed lc)
+spot_there claimed xs lc k s h =
+    let long : length (leaf_spots xs lc) ≡ length xs + length lc = length-append (map Old xs) (map New lc) ∙ (λ i. map_length Old xs i + map_length New lc i) in
+    let all : length (xs ++ map claimed lc) ≡ length xs + length lc = length-append xs (map claimed lc) ∙ (λ i. length xs + map_length claimed lc i) in
+    times_get (xs ++ map claimed lc) (place claimed (get_or (leaf_spots xs lc) k s)) k (place claimed s) (omega (arith, all, h))
+    (ap (λ ps. get_or ps k (place claimed s)) (sym (spots_pages claimed xs lc)) ∙ map_at (place claimed) (leaf_spots xs lc) k s (place claimed s) (omega (arith, long, h)))
+
 -- each edit of a root page is of another slot
 names_length : (spot : Spot) (slot : ℕ) (is : List ℕ) → length (name_edits spot slot is) ≡ length is
 names_length spot slot [] = refl
@@ -132,7 +140,7 @@ pub record Emitted (at : SlotsAt) (owns : PageId → Bool) (claimed : ℕ → Pa
   pub changed : All (λ q. after claimed at edits (place claimed q.spot) ≡ root_made claimed (at (place claimed q.spot)) q) chain
   pub kept : (p : PageId) → 1 ≤ times p roots → p ≢ last → at p ≡ after claimed at edits p
   pub slots : map (after claimed at edits) (leaves ++ map claimed lc) ≡ news
-  pub once : AllPairs AreApartEdits edits
+  pub once : AllPairs (IsOtherSlot claimed) edits
 
 module _ (at : SlotsAt) (owns : PageId → Bool) (root : PageId) (claimed : ℕ → PageId) (n : ℕ) (roots leaves front : List PageId) (last : PageId) (head : RootPage) (more : List RootPage) (lc : List ℕ) (news : List (List (List ℕ))) (order : List ℕ) (edits : List Edit)
     (h : IsHeapOf at root roots leaves) (owned : (p : PageId) → (owns p ≡ true) ↔ Reaches (visits_of root roots leaves) p) (free : AreFree claimed n at owns) (split : roots ≡ front ++ last ∷ []) (begins : head.spot ≡ Old last) (counted : head.slots ≡ length (at last))

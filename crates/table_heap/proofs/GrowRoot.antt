@@ -105,7 +105,7 @@ module _ (claimed : ℕ → PageId) (page : PageId) where
         made = is;
       }
 
-  names_bytes : (spot : Spot) (slot i : ℕ) → bytes_of claimed (record { spot = spot; slot = slot; names = Some i; bytes = [] }) ≡ address (claimed i)
+  names_bytes : (spot : Spot) (slot i : ℕ) → bytes_of claimed (record { spot = spot; slot = slot; names = Some i; bytes = []; of_row = false }) ≡ address (claimed i)
   names_bytes spot slot i = append-nil (address (claimed i))
 
   -- leaves named behind what there is
@@ -116,13 +116,13 @@ module _ (claimed : ℕ → PageId) (page : PageId) where
       let next : List (List ℕ) = slots ++ address (claimed i) ∷ [] in
       let long : length (slots ++ address (claimed i) ∷ []) ≡ length slots + 1 = length-append slots (address (claimed i) ∷ []) in
       let fives : AreFive (slots ++ address (claimed i) ∷ []) = five_behind slots (address (claimed i)) (address_length (claimed i)) five in
-      let one : Turns claimed page slots (slots ++ address (claimed i) ∷ []) (record { spot = spot; slot = slot; names = Some i; bytes = [] } ∷ []) =
-      one_turn slots (slots ++ address (claimed i) ∷ []) (record { spot = spot; slot = slot; names = Some i; bytes = [] }) (address (claimed i)) on (names_bytes spot slot i) (address_some (claimed i)) (address_length (claimed i)) (set_behind slots slot (address (claimed i)) at) fives (omega arith) (omega arith)
+      let one : Turns claimed page slots (slots ++ address (claimed i) ∷ []) (record { spot = spot; slot = slot; names = Some i; bytes = []; of_row = false } ∷ []) =
+      one_turn slots (slots ++ address (claimed i) ∷ []) (record { spot = spot; slot = slot; names = Some i; bytes = []; of_row = false }) (address (claimed i)) on (names_bytes spot slot i) (address_some (claimed i)) (address_length (claimed i)) (set_behind slots slot (address (claimed i)) at) fives (omega arith) (omega arith)
       (λ e. address_some (claimed i) (sym e ∙ get_or_past slots slot [] (omega arith))) in
       let rest : Turns claimed page (slots ++ address (claimed i) ∷ []) ((slots ++ address (claimed i) ∷ []) ++ map (λ j. address (claimed j)) is) (name_edits spot (slot + 1) is) =
       names_turn spot (slots ++ address (claimed i) ∷ []) (slot + 1) is on (omega arith) fives (omega arith) in
       subst (λ s. Turns claimed page slots s (name_edits spot slot (i ∷ is))) (append_assoc slots (address (claimed i) ∷ []) (map (λ j. address (claimed j)) is))
-      (turns_append claimed page slots (slots ++ address (claimed i) ∷ []) ((slots ++ address (claimed i) ∷ []) ++ map (λ j. address (claimed j)) is) (record { spot = spot; slot = slot; names = Some i; bytes = [] } ∷ []) (name_edits spot (slot + 1) is) one rest)
+      (turns_append claimed page slots (slots ++ address (claimed i) ∷ []) ((slots ++ address (claimed i) ∷ []) ++ map (λ j. address (claimed j)) is) (record { spot = spot; slot = slot; names = Some i; bytes = []; of_row = false } ∷ []) (name_edits spot (slot + 1) is) one rest)
 
   nothing : (slots : List (List ℕ)) → Turns claimed page slots slots []
   nothing slots = record { on = tt; go = tt; made = refl }
@@ -131,12 +131,12 @@ module _ (claimed : ℕ → PageId) (page : PageId) where
   front_turn : (spot : Spot) (old : List (List ℕ)) (olds : List PageId) (next : Option ℕ) → place claimed spot ≡ page → NamedBefore old olds → length olds ≤ 1000 → ((j : ℕ) → next ≡ Some j → IsTarget (claimed j))
       → Turns claimed page old (slot_0 claimed next old ∷ drop 1 old) (front_edits spot (length old) next)
   front_turn spot [] olds None on n short t =
-      one_turn [] (zeros ∷ []) (record { spot = spot; slot = 0; names = None; bytes = zeros }) zeros on refl zeros_some refl refl refl (omega arith) (omega arith) (λ e. zeros_some (sym e))
+      one_turn [] (zeros ∷ []) (record { spot = spot; slot = 0; names = None; bytes = zeros; of_row = false }) zeros on refl zeros_some refl refl refl (omega arith) (omega arith) (λ e. zeros_some (sym e))
   front_turn spot (x ∷ xs) olds None on n short t = nothing (x ∷ xs)
   front_turn spot [] olds (Some j) on n short t =
-      one_turn [] (address (claimed j) ∷ []) (record { spot = spot; slot = 0; names = Some j; bytes = [] }) (address (claimed j)) on (names_bytes spot 0 j) (address_some (claimed j)) (address_length (claimed j)) refl (omega (arith, address_length (claimed j))) (omega arith) (omega arith) (λ e. address_some (claimed j) (sym e))
+      one_turn [] (address (claimed j) ∷ []) (record { spot = spot; slot = 0; names = Some j; bytes = []; of_row = false }) (address (claimed j)) on (names_bytes spot 0 j) (address_some (claimed j)) (address_length (claimed j)) refl (omega (arith, address_length (claimed j))) (omega arith) (omega arith) (λ e. address_some (claimed j) (sym e))
   front_turn spot (x ∷ xs) olds (Some j) on n short t =
-      one_turn (x ∷ xs) (address (claimed j) ∷ xs) (record { spot = spot; slot = 0; names = Some j; bytes = [] }) (address (claimed j)) on (names_bytes spot 0 j) (address_some (claimed j)) (address_length (claimed j)) refl
+      one_turn (x ∷ xs) (address (claimed j) ∷ xs) (record { spot = spot; slot = 0; names = Some j; bytes = []; of_row = false }) (address (claimed j)) on (names_bytes spot 0 j) (address_some (claimed j)) (address_length (claimed j)) refl
       (five_cons (address (claimed j)) xs (address_length (claimed j)) (five_names xs olds n.1)) (omega (arith, Name-length xs olds n.1)) (omega arith) differs
     where
       differs : x ≢ address (claimed j)

@@ -10,11 +10,11 @@ use Rattle.plain_model.specs.Tables.{Rows}
 use Rattle.row_fmt.specs.Rows.{row_bytes, bit_fields, null_bytes, is_null, value_field}
 use Rattle.row_fmt.proofs.RowLemmas.{one_row}
 use Rattle.table_walk.specs.declared.visit.Visit.{Visit}
-use Rattle.table_walk.specs.Tables.{is_leaf, full, cells, Gathers}
+use Rattle.table_walk.specs.Tables.{is_leaf, full, cells, Gathers, MayPut}
 use Rattle.table_walk.proofs.WalkLemmas.{walks-one}
 use Rattle.table_heap.specs.Heap.{heap_kids, first, RowsAt}
 use Rattle.table_heap.specs.Leaves.{Leaf, cell, slots_of, rows_in, all_rows, ByKeys}
-use Rattle.table_heap.specs.Planning.{MayPut, leaf_slots, HasLeaves}
+use Rattle.table_heap.specs.Planning.{leaf_slots, HasLeaves}
 use Rattle.table_heap.specs.Shape.{leaves_in}
 
 abbrev Row : Type 0

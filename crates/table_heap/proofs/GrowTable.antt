@@ -12,13 +12,13 @@ use Rattle.table_walk.specs.declared.plan.Spot.TheVariants.{Old}
 use Rattle.table_walk.specs.declared.visit.Visit.{Visit}
 use Rattle.table_walk.specs.Addresses.{names_none}
 use Rattle.table_walk.specs.Plans.{place, also, AreFree}
-use Rattle.table_walk.specs.Tables.{cells, Gathers}
+use Rattle.table_walk.specs.Tables.{cells, Gathers, MayPut}
 use Rattle.table_walk.specs.Walk.{Reaches, IsWalk}
 use Rattle.table_heap.specs.Growth.{count_of, IsNumbering, root_made, IsChain, leaf_claims, root_claims}
 use Rattle.table_heap.specs.declared.growing.RootPage.{RootPage}
 use Rattle.table_heap.specs.Heap.{heap_kids, first, RowsAt}
 use Rattle.table_heap.specs.Leaves.{Leaf, slots_of, all_rows, ByKeys}
-use Rattle.table_heap.specs.Planning.{MayPut, HasLeaves}
+use Rattle.table_heap.specs.Planning.{HasLeaves}
 use Rattle.table_heap.specs.Shape.{IsRootPage, Chain, visits_of, times, leaves_in, roots_in, IsHeapOf}
 use Rattle.table_heap.proofs.GrowChain.{named_before, chain_made, chain_grows}
 use Rattle.table_heap.proofs.GrowLemmas.{count_append, IsGrown, grown_heap}

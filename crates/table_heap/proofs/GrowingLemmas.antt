@@ -1,5 +1,5 @@
 -- What is claimed stays in order as leaves and root pages are claimed.
-use Rattle.std.proofs.Common.{inl, inr, refl, ◌≡◌, ℕ, suc, ◌+◌, ◌-◌, ◌<◌, ◌≤◌, List, [], ◌∷◌, ◌++◌, length, get_or, take, ap, sym, ◌∙◌, subst, arith, append_assoc, length-append}
+use Rattle.std.proofs.Common.{false, inl, inr, refl, ◌≡◌, ℕ, suc, ◌+◌, ◌-◌, ◌<◌, ◌≤◌, List, [], ◌∷◌, ◌++◌, length, get_or, take, ap, sym, ◌∙◌, subst, arith, append_assoc, length-append}
 use Rattle.std.specs.Prelude.{None, Some}
 use Rattle.std.specs.List.{All, AllPairs}
 use Rattle.std.proofs.lemmas.Bool.{cases_eq}
@@ -201,17 +201,17 @@ growing_root spot count n pending g claims leaves full last leaf recent there i 
 
 -- EDITS
 
-name_edits_append : (spot : Spot) (slot : ℕ) (xs : List ℕ) (x : ℕ) → name_edits spot slot (xs ++ x ∷ []) ≡ name_edits spot slot xs ++ record { spot = spot; slot = slot + length xs; names = Some x; bytes = [] } ∷ []
-name_edits_append spot slot [] x = let at : slot ≡ slot + 0 = omega arith in λ i. record { spot = spot; slot = at i; names = Some x; bytes = [] } ∷ []
+name_edits_append : (spot : Spot) (slot : ℕ) (xs : List ℕ) (x : ℕ) → name_edits spot slot (xs ++ x ∷ []) ≡ name_edits spot slot xs ++ record { spot = spot; slot = slot + length xs; names = Some x; bytes = []; of_row = false } ∷ []
+name_edits_append spot slot [] x = let at : slot ≡ slot + 0 = omega arith in λ i. record { spot = spot; slot = at i; names = Some x; bytes = []; of_row = false } ∷ []
 name_edits_append spot slot (y ∷ ys) x =
     let at : slot + 1 + length ys ≡ slot + suc (length ys) = omega arith in
-    ap (λ es. record { spot = spot; slot = slot; names = Some y; bytes = [] } ∷ es) (name_edits_append spot (slot + 1) ys x ∙ (λ i. name_edits spot (slot + 1) ys ++ record { spot = spot; slot = at i; names = Some x; bytes = [] } ∷ []))
+    ap (λ es. record { spot = spot; slot = slot; names = Some y; bytes = []; of_row = false } ∷ es) (name_edits_append spot (slot + 1) ys x ∙ (λ i. name_edits spot (slot + 1) ys ++ record { spot = spot; slot = at i; names = Some x; bytes = []; of_row = false } ∷ []))
 
 -- one leaf more is named
 pub names_more : (spot : Spot) (first : ℕ) (names : List ℕ) (i : ℕ) (before edits after : List Edit) (e : Edit) → edits ≡ before ++ name_edits spot first (take i names) → i < length names
-    → e ≡ record { spot = spot; slot = first + i; names = Some (get_or names i 0); bytes = [] } → after ≡ edits ++ e ∷ [] → after ≡ before ++ name_edits spot first (take (i + 1) names)
+    → e ≡ record { spot = spot; slot = first + i; names = Some (get_or names i 0); bytes = []; of_row = false } → after ≡ edits ++ e ∷ [] → after ≡ before ++ name_edits spot first (take (i + 1) names)
 names_more spot first names i before edits after e so_far lt is more =
     let long : length (take i names) ≡ i = length-take-le i names (omega arith) in
-    more ∙ (λ k. so_far k ++ is k ∷ []) ∙ append_assoc before (name_edits spot first (take i names)) (record { spot = spot; slot = first + i; names = Some (get_or names i 0); bytes = [] } ∷ [])
-    ∙ (λ k. before ++ (name_edits spot first (take i names) ++ record { spot = spot; slot = first + sym long k; names = Some (get_or names i 0); bytes = [] } ∷ []))
+    more ∙ (λ k. so_far k ++ is k ∷ []) ∙ append_assoc before (name_edits spot first (take i names)) (record { spot = spot; slot = first + i; names = Some (get_or names i 0); bytes = []; of_row = false } ∷ [])
+    ∙ (λ k. before ++ (name_edits spot first (take i names) ++ record { spot = spot; slot = first + sym long k; names = Some (get_or names i 0); bytes = []; of_row = false } ∷ []))
     ∙ ap (λ es. before ++ es) (sym (name_edits_append spot first (take i names) (get_or names i 0)) ∙ ap (name_edits spot first) (sym (take_more names i 0 lt)))

@@ -8,7 +8,7 @@ use Rattle.page_base.specs.Pages.{set_at}
 use Rattle.page_fmt.specs.Seen.{SlotsAt}
 use Rattle.table_walk.specs.declared.plan.Edit.{Edit}
 use Rattle.table_walk.specs.declared.plan.Spot.{Spot}
-use Rattle.table_walk.specs.Plans.{place, after, Go, also, AreWithin}
+use Rattle.table_walk.specs.Plans.{place, after, Go, also, IsOtherSlot, AreWithin}
 use Rattle.table_heap.specs.declared.growing.RootPage.{RootPage}
 use Rattle.table_heap.specs.Emission.{Makes, MakesAll}
 use Rattle.table_heap.specs.Growth.{count_of}
@@ -35,10 +35,6 @@ pairs_append R xs ys a b c i j d h l =
           (subst (λ x. R x (get_or ys (j - length xs) d)) (sym (get_or-append_right xs ys (length xs) i d refl right)) (b (i - length xs) (j - length xs) d (omega arith) (omega arith)))
     ]
 
--- not of one slot of one page
-abbrev pub AreApartEdits : Edit → Edit → Type 0
-AreApartEdits e f = ¬ ((e.spot ≡ f.spot) × (e.slot ≡ f.slot))
-
 module _ (claimed : ℕ → PageId) (spots : List Spot) (olds news : List (List (List ℕ))) (roots : List RootPage) (page : ℕ → PageId) (old new : ℕ → List (List ℕ)) where
   -- what they do
   pub record InTurn (at : SlotsAt) (order : List ℕ) (edits : List Edit) : Type 0 where
@@ -47,7 +43,7 @@ module _ (claimed : ℕ → PageId) (spots : List Spot) (olds news : List (List 
     pub others : (q : PageId) → ((i : ℕ) → 1 ≤ count_of i order → page i ≢ q) → after claimed at edits q ≡ at q
     pub within : (n : ℕ) (owns : PageId → Bool) → ((i : ℕ) → 1 ≤ count_of i order → also owns claimed n (page i) ≡ true) → AreWithin claimed n owns edits
     pub on : (k : ℕ) (d : Edit) → k < length edits → (j : ℕ) × (1 ≤ count_of j order) × (place claimed (get_or edits k d).spot ≡ page j)
-    pub once : AllPairs AreApartEdits edits
+    pub once : AllPairs (IsOtherSlot claimed) edits
 
   pub go_in_turn : (order : List ℕ) (at : SlotsAt) (edits : List Edit) → MakesAll spots olds news roots order edits
       → ((i : ℕ) (es : List Edit) → 1 ≤ count_of i order → Makes spots olds news roots i es → Turns claimed (page i) (old i) (new i) es)
@@ -95,9 +91,9 @@ module _ (claimed : ℕ → PageId) (spots : List Spot) (olds news : List (List 
                   let x = r.on (k - length m.0) d (omega (arith, ap length m.4, length-append m.0 m.1)) in
                   (x.0, more x.0 x.1, ap (λ (e : Edit). place claimed e.spot) (get_or-append_right m.0 m.1 (length m.0) k d refl right) ∙ x.2)
             ]);
-        once = subst (AllPairs AreApartEdits) (sym m.4)
-            (pairs_append AreApartEdits m.0 m.1 (λ j k d lt l both. singles i m.0 mine m.2 j k d lt l both.1) r.once
+        once = subst (AllPairs (IsOtherSlot claimed)) (sym m.4)
+            (pairs_append (IsOtherSlot claimed) m.0 m.1 (λ j k d lt l both. singles i m.0 mine m.2 j k d lt l both.1) r.once
             (λ j k d lt l both.
             let x = r.on k d l in
-            differ x.0 x.1 (sym (on_at claimed (page i) m.0 j d t.on lt) ∙ ap (place claimed) both.0 ∙ x.2)));
+            differ x.0 x.1 (sym (on_at claimed (page i) m.0 j d t.on lt) ∙ both.0 ∙ x.2)));
       }

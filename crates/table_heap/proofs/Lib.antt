@@ -19,6 +19,7 @@ pub mod PlanningLemmas
 pub mod PromiseLemmas
 pub mod PutLemmas
 pub mod ReadLemmas
+pub mod RowEdits
 pub mod ShapeLemmas
 pub mod SlotsLemmas
 pub mod TurnLemmas

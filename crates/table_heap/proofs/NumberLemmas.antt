@@ -1,5 +1,5 @@
 -- The edits of a plan speak only of pages that it claims.
-use Rattle.std.proofs.Common.{◌≡◌, ℕ, zero, suc, ◌+◌, ◌-◌, ◌<◌, ◌≤◌, List, [], ◌∷◌, ◌++◌, length, get_or, map, ap, sym, ◌∙◌, subst, max, inl, inr}
+use Rattle.std.proofs.Common.{false, ℕ, zero, suc, ◌+◌, ◌-◌, ◌<◌, List, [], ◌∷◌, ◌++◌, length, get_or, map, sym, subst, max, inl, inr}
 use Rattle.std.specs.Prelude.{Option, None, Some}
 use Rattle.std.specs.List.{All}
 use Rattle.std.specs.Option.{option_to_list}
@@ -17,7 +17,7 @@ use Rattle.table_walk.specs.Plans.{SpotBelow, NameBelow, IsBelow}
 use Rattle.table_heap.specs.declared.growing.RootPage.{RootPage}
 use Rattle.table_heap.specs.declared.growing.Growth.{Growth}
 use Rattle.table_heap.specs.Emission.{read_pages, read_slots, leaf_spots, Makes, MakesAll, last_or, IsPlanned}
-use Rattle.table_heap.specs.Growth.{IsNumbering, IsChain, Begins, front_edits, name_edits, root_edits, leaf_claims, root_claims, pages_in}
+use Rattle.table_heap.specs.Growth.{IsChain, Begins, front_edits, name_edits, root_edits, leaf_claims, root_claims, pages_in}
 use Rattle.table_heap.specs.Shape.{roots_in}
 use Rattle.table_heap.proofs.GrowLemmas.{numbered_all}
 
@@ -51,14 +51,14 @@ module _ (n : ℕ) where
   -- THE EDITS OF A ROOT PAGE
 
   front_below : (spot : Spot) (count : ℕ) (next : Option ℕ) → SpotBelow n spot → NameBelow n next → All (IsBelow n) (front_edits spot count next)
-  front_below spot count (Some j) b m = All-cons (IsBelow n) (record { spot = spot; slot = 0; names = Some j; bytes = [] }) [] (b, m) (All-nil (IsBelow n))
-  front_below spot zero None b m = All-cons (IsBelow n) (record { spot = spot; slot = 0; names = None; bytes = 0 ∷ 0 ∷ 0 ∷ 0 ∷ 0 ∷ [] }) [] (b, tt) (All-nil (IsBelow n))
+  front_below spot count (Some j) b m = All-cons (IsBelow n) (record { spot = spot; slot = 0; names = Some j; bytes = []; of_row = false }) [] (b, m) (All-nil (IsBelow n))
+  front_below spot zero None b m = All-cons (IsBelow n) (record { spot = spot; slot = 0; names = None; bytes = 0 ∷ 0 ∷ 0 ∷ 0 ∷ 0 ∷ []; of_row = false }) [] (b, tt) (All-nil (IsBelow n))
   front_below spot (suc k) None b m = All-nil (IsBelow n)
 
   names_below : (spot : Spot) (slot : ℕ) (is : List ℕ) → SpotBelow n spot → All Below is → All (IsBelow n) (name_edits spot slot is)
   names_below spot slot [] b a = All-nil (IsBelow n)
   names_below spot slot (i ∷ is) b a =
-      All-cons (IsBelow n) (record { spot = spot; slot = slot; names = Some i; bytes = [] }) (name_edits spot (slot + 1) is) (b, All-head Below i is a) (names_below spot (slot + 1) is b (All-tail Below i is a))
+      All-cons (IsBelow n) (record { spot = spot; slot = slot; names = Some i; bytes = []; of_row = false }) (name_edits spot (slot + 1) is) (b, All-head Below i is a) (names_below spot (slot + 1) is b (All-tail Below i is a))
 
   record RootBelow (r : RootPage) : Type 0 where
     spot : SpotBelow n r.spot

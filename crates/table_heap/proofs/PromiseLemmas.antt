@@ -1,5 +1,5 @@
 -- What was planned is what a plan promises.
-use Rattle.std.proofs.Common.{refl, ◌≡◌, ℕ, ◌+◌, ◌*◌, ◌<◌, ◌≤◌, List, [], ◌∷◌, ◌++◌, length, map, drop, ap, sym, ◌∙◌, subst, arith, Bool, true, false, cond, inl, inr}
+use Rattle.std.proofs.Common.{refl, ◌≡◌, ℕ, ◌+◌, ◌*◌, ◌<◌, ◌≤◌, List, [], ◌∷◌, ◌++◌, length, map, drop, get_or, ap, sym, ◌∙◌, subst, arith, Bool, true, false, cond, inl, inr}
 use Rattle.std.specs.Prelude.{◌↔◌}
 use Rattle.std.specs.List.{All, AllPairs}
 use Rattle.std.proofs.lemmas.Bool.{cases_lt}
@@ -12,8 +12,8 @@ use Rattle.plain_model.specs.Tables.{Rows}
 use Rattle.table_walk.specs.declared.plan.Edit.{Edit}
 use Rattle.table_walk.specs.declared.plan.Spot.TheVariants.{Old}
 use Rattle.table_walk.specs.declared.visit.Visit.{Visit}
-use Rattle.table_walk.specs.Plans.{after, Go, also, AreFree, AreWithin, cut_all, put_all}
-use Rattle.table_walk.specs.Tables.{is_leaf}
+use Rattle.table_walk.specs.Plans.{after, Go, also, AreFree, AreWithin, IsOtherSlot, IsOnLeaf, place, cut_all, put_all}
+use Rattle.table_walk.specs.Tables.{is_leaf, MayPut}
 use Rattle.table_walk.specs.Walk.{Reaches, IsWalk, IsSeenWalk}
 use Rattle.table_walk.proofs.WalkLemmas.{is_all, walks-one}
 use Rattle.table_heap.specs.declared.growing.Growth.{Growth}
@@ -23,15 +23,15 @@ use Rattle.table_heap.specs.Growth.{IsNumbering, IsChain, leaf_claims, root_clai
 use Rattle.table_heap.specs.Heap.{heap_kids, first, RowsAt}
 use Rattle.table_heap.specs.Leaves.{Leaf, slots_of, cut_keys, put_rows}
 use Rattle.table_heap.specs.Places.{Index, AreRows, AreApart, IsDraft}
-use Rattle.table_heap.specs.Planning.{MayPut, HasLeaves, AreBehind, AreClaimed, Promises}
+use Rattle.table_heap.specs.Planning.{HasLeaves, AreBehind, AreClaimed, Promises}
 use Rattle.table_heap.specs.Shape.{Chain, visits_of, times, leaves_in, roots_in}
 use Rattle.table_heap.proofs.ApartLemmas.{rows_are, apart_of}
 use Rattle.table_heap.proofs.EmissionLemmas.{map_length}
-use Rattle.table_heap.proofs.EmittedLemmas.{Emitted, emitted}
+use Rattle.table_heap.proofs.EmittedLemmas.{Emitted, emitted, spot_there}
 use Rattle.table_heap.proofs.GrowChain.{behind_made, behind_grows}
 use Rattle.table_heap.proofs.GrowRows.{LeavesOf, leaves_of, has_leaves_one}
 use Rattle.table_heap.proofs.GrowTable.{Grows, grown, LastRoot, last_root, root_length}
-use Rattle.table_heap.proofs.InTurn.{AreApartEdits}
+use Rattle.table_heap.proofs.RowEdits.{pages_among, among_leaves}
 use Rattle.table_heap.proofs.LeafLemmas.{planned_rows}
 use Rattle.table_heap.proofs.NumberLemmas.{numbers_below}
 use Rattle.table_heap.proofs.PlanningLemmas.{look_none, last_or_end, Counted, last_counted, pages_read, slots_are_read}
@@ -80,7 +80,8 @@ record Done (cols : List Column) (at : SlotsAt) (owns : PageId → Bool) (root :
   later : List Visit
   walk : IsWalk heap_kids (after claimed at edits) (first root) later []
   claims : AreClaimed claimed n before later
-  once : AllPairs AreApartEdits edits
+  once : AllPairs (IsOtherSlot claimed) edits
+  on : All (IsOnLeaf claimed later) edits
 
 module _ (cols : List Column) (seen : List Looked) (root : PageId) (cut put : List (List Value)) (done : List Visit) (places : List ℕ) (news : List (List (List ℕ))) (index : Index) (n : ℕ) (edits : List Edit) (w : IsSeenWalk heap_kids seen (first root) done [])
     (read : places ≡ map (place_of seen) (leaves_in done))
@@ -155,6 +156,9 @@ module _ (cols : List Column) (seen : List Looked) (root : PageId) (cut put : Li
           keys = planned_rows cols cut put old.leaves rows old.keys;
         } in
         let all = grown cols at (after claimed at edits) owns root rows (put_all cols put (cut_all cut rows)) claimed n (made_of old.leaves) t free grows in
+        let leaves_later : leaves_in all.done ≡ x.leaves ++ map claimed p.growth.leaves = all.leaves_are ∙ (λ i. leaves_are i ++ map claimed (claims i)) in
+        let there : (k : ℕ) → k < length news → 1 ≤ times (place claimed (get_or (leaf_spots x.leaves p.growth.leaves) k (Old root))) (leaves_in all.done) =
+        λ k lt. subst (λ ps. 1 ≤ times (place claimed (get_or (leaf_spots x.leaves p.growth.leaves) k (Old root))) ps) (sym leaves_later) (spot_there claimed x.leaves p.growth.leaves k (Old root) (omega (arith, many))) in
         let new_roots : List ℕ = root_claims (f.head ∷ f.more) in
         let new_leaves : List PageId = map claimed (leaf_claims (f.head ∷ f.more)) in
         let followed : AreFollowed (f.head ∷ f.more) [] = subst (λ rs. AreFollowed rs []) f.is p.grows.follow in
@@ -169,6 +173,7 @@ module _ (cols : List Column) (seen : List Looked) (root : PageId) (cut put : Li
           later = all.done;
           walk = all.walk;
           once = e.once;
+          on = among_leaves claimed (leaves_in all.done) all.done edits refl (pages_among claimed (leaves_in all.done) (leaf_spots x.leaves p.growth.leaves) (map at x.leaves) news (f.head ∷ f.more) (Old root) f.head there p.order edits makes);
           claims = record {
             leaves = p.growth.leaves;
             roots = root_claims (f.head ∷ f.more);
@@ -199,5 +204,9 @@ module _ (cols : List Column) (seen : List Looked) (root : PageId) (cut put : Li
         let is : d.later ≡ later = walks-one heap_kids (after claimed at edits) (first root ∷ []) d.later later d.walk.walks walk_later.walks in
         subst (λ vs. AreClaimed claimed n before vs) is (subst (λ vs. AreClaimed claimed n vs d.later) was d.claims);
     once = λ at owns rows claimed t shows free. (all_done at owns rows claimed t shows free).once;
+    rows = λ at owns rows claimed later t shows free walk_later.
+        let d = all_done at owns rows claimed t shows free in
+        let is : d.later ≡ later = walks-one heap_kids (after claimed at edits) (first root ∷ []) d.later later d.walk.walks walk_later.walks in
+        subst (λ vs. All (IsOnLeaf claimed vs) edits) is d.on;
     numbers = numbers_below seen root done places news n edits p;
   }

@@ -1,5 +1,5 @@
 -- What becomes of the root pages of a heap that gets leaves: pages that are claimed, each by its number.
-use Rattle.std.specs.Prelude.{◌≡◌, ◌==◌, ◌<◌, ◌≤◌, if◌then◌else◌, Option, None, Some, ℕ, zero, suc, ◌+◌, max, List, [], ◌∷◌, ◌++◌, length, take, drop, map}
+use Rattle.std.specs.Prelude.{false, ◌≡◌, ◌==◌, ◌<◌, ◌≤◌, if◌then◌else◌, Option, None, Some, ℕ, zero, suc, ◌+◌, max, List, [], ◌∷◌, ◌++◌, length, take, drop, map}
 use Rattle.std.specs.List.{AllPairs}
 use Rattle.std.specs.Option.{option_to_list}
 use Rattle.page_base.specs.declared.numbers.PageId.{PageId}
@@ -58,14 +58,14 @@ AreFollowed (r ∷ s ∷ rest) pending = (c : ℕ) × (r.next ≡ Some (c + 1)) 
 
 -- the edit of its slot 0, where that changes: it names the next root page, or none on a page of no slots
 abbrev pub front_edits : Spot → ℕ → Option ℕ → List Edit
-front_edits spot count (Some j) = record { spot = spot; slot = 0; names = Some j; bytes = [] } ∷ []
-front_edits spot zero None = record { spot = spot; slot = 0; names = None; bytes = 0 ∷ 0 ∷ 0 ∷ 0 ∷ 0 ∷ [] } ∷ []
+front_edits spot count (Some j) = record { spot = spot; slot = 0; names = Some j; bytes = []; of_row = false } ∷ []
+front_edits spot zero None = record { spot = spot; slot = 0; names = None; bytes = 0 ∷ 0 ∷ 0 ∷ 0 ∷ 0 ∷ []; of_row = false } ∷ []
 front_edits spot (suc n) None = []
 
 -- the edits that name leaves in slots, from one on
 abbrev pub name_edits : Spot → ℕ → List ℕ → List Edit
 name_edits spot slot [] = []
-name_edits spot slot (i ∷ is) = record { spot = spot; slot = slot; names = Some i; bytes = [] } ∷ name_edits spot (slot + 1) is
+name_edits spot slot (i ∷ is) = record { spot = spot; slot = slot; names = Some i; bytes = []; of_row = false } ∷ name_edits spot (slot + 1) is
 
 -- the edits of a root page
 abbrev pub root_edits : RootPage → List Edit

@@ -9,7 +9,7 @@ use Rattle.page_fmt.specs.Spelling.{used}
 use Rattle.plain_model.specs.Tables.{key_of}
 use Rattle.table_heap.specs.declared.places.Place.{Place}
 use Rattle.table_heap.specs.Leaves.{Leaf, slots_of}
-use Rattle.table_heap.specs.Planning.{MayPut}
+use Rattle.table_walk.specs.Tables.{MayPut}
 
 -- the first empty slot, or the one behind the last
 pub record IsFirstEmpty (slots : List (List ℕ)) (i : ℕ) : Type 0 where

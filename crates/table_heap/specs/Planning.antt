@@ -1,27 +1,20 @@
 -- What a plan of a heap promises: the table of rows that it leaves, and the leaf and slot of each row.
-use Rattle.std.specs.Prelude.{Bool, ◌≡◌, ◌≢◌, All, ℕ, ◌++◌, ◌+◌, ◌*◌, ◌<◌, if◌then◌else◌, List, [], ◌∷◌, length, take, drop, map}
+use Rattle.std.specs.Prelude.{Bool, ◌≡◌, All, ℕ, ◌++◌, ◌+◌, ◌*◌, ◌<◌, if◌then◌else◌, List, [], ◌∷◌, length, take, drop, map}
 use Rattle.std.specs.List.{AllPairs}
 use Rattle.page_base.specs.declared.column.Column.{Column}
 use Rattle.page_base.specs.declared.numbers.PageId.{PageId}
 use Rattle.page_base.specs.declared.value.Value.{Value}
 use Rattle.page_fmt.specs.Seen.{SlotsAt, Looked, Shows}
 use Rattle.plain_model.specs.Tables.{Rows}
-use Rattle.row_fmt.specs.Rows.{IsRowOf}
 use Rattle.table_walk.specs.declared.plan.Edit.{Edit}
 use Rattle.table_walk.specs.declared.visit.Visit.{Visit}
 use Rattle.table_walk.specs.Walk.{IsWalk}
-use Rattle.table_walk.specs.Tables.{is_leaf, IsSmall}
-use Rattle.table_walk.specs.Plans.{after, AreFree, IsBelow, Carries, cut_all, put_all}
+use Rattle.table_walk.specs.Tables.{is_leaf, MayPut}
+use Rattle.table_walk.specs.Plans.{after, AreFree, IsBelow, IsOtherSlot, IsOnLeaf, Carries, cut_all, put_all}
 use Rattle.table_heap.specs.Heap.{heap_kids, heap_shape, first, RowsAt}
 use Rattle.table_heap.specs.Growth.{IsNumbering}
 use Rattle.table_heap.specs.Shape.{leaves_in, roots_in}
 use Rattle.table_heap.specs.Leaves.{Leaf, slots_of, all_rows, cut_keys, put_rows}
-
--- a row that a plan may put: one of these columns, of which there are some, within the limits
-pub record MayPut (cols : List Column) (row : List Value) : Type 0 where
-  pub of : IsRowOf cols row
-  pub small : IsSmall cols row
-  pub some : row ≢ []
 
 -- the slots of the leaves, in the order of the walk
 abbrev pub leaf_slots : SlotsAt → List Visit → List (List (List ℕ))
@@ -52,7 +45,7 @@ pub record AreClaimed (claimed : ℕ → PageId) (n : ℕ) (before later : List 
 
 -- Over pages that are a table, and whatever free pages are claimed, the edits carry the table to its rows without those
 -- that are cut and with those that are put, and each row to its place; the claimed pages are the new ones, in order,
--- and no slot is edited twice. Whatever was read, the edits speak of the first n claimed pages alone.
+-- no slot is edited twice, and the edits of rows are of leaves. Whatever was read, the edits speak of the first n claimed pages alone.
 pub record Promises (cols : List Column) (seen : List Looked) (root : PageId) (cut put : List (List Value)) (n : ℕ) (edits : List Edit) : Type 0 where
   pub carries : (at : SlotsAt) (owns : PageId → Bool) (rows : Rows) (claimed : ℕ → PageId) → RowsAt cols at owns root rows → Shows seen at → AreFree claimed n at owns
       → Carries heap_shape cols (first root) claimed n at owns edits (put_all cols put (cut_all cut rows))
@@ -60,5 +53,7 @@ pub record Promises (cols : List Column) (seen : List Looked) (root : PageId) (c
       → HasLeaves cols at root leaves → HasLeaves cols (after claimed at edits) root (put_rows cols put (cut_keys cols cut leaves))
   pub claims : (at : SlotsAt) (owns : PageId → Bool) (rows : Rows) (claimed : ℕ → PageId) (before later : List Visit) → RowsAt cols at owns root rows → Shows seen at → AreFree claimed n at owns
       → IsWalk heap_kids at (first root) before [] → IsWalk heap_kids (after claimed at edits) (first root) later [] → AreClaimed claimed n before later
-  pub once : (at : SlotsAt) (owns : PageId → Bool) (rows : Rows) (claimed : ℕ → PageId) → RowsAt cols at owns root rows → Shows seen at → AreFree claimed n at owns → AllPairs (λ e f. ¬ ((e.spot ≡ f.spot) × (e.slot ≡ f.slot))) edits
+  pub once : (at : SlotsAt) (owns : PageId → Bool) (rows : Rows) (claimed : ℕ → PageId) → RowsAt cols at owns root rows → Shows seen at → AreFree claimed n at owns → AllPairs (IsOtherSlot claimed) edits
+  pub rows : (at : SlotsAt) (owns : PageId → Bool) (rows : Rows) (claimed : ℕ → PageId) (later : List Visit) → RowsAt cols at owns root rows → Shows seen at → AreFree claimed n at owns
+      → IsWalk heap_kids (after claimed at edits) (first root) later [] → All (IsOnLeaf claimed later) edits
   pub numbers : All (IsBelow n) edits

@@ -11,9 +11,8 @@ ghost use Rattle.plain_model.specs.Tables.{key_of};
 ghost use Rattle.row_fmt.specs.Rows.{row_bytes};
 ghost use Rattle.std.specs.List.{Any};
 ghost use Rattle.table_walk.specs.Answers.{IsAt, IsOn};
-ghost use Rattle.table_walk.specs.Tables.{IsNoRow};
+ghost use Rattle.table_walk.specs.Tables.{IsNoRow, MayPut};
 ghost use Rattle.table_heap.specs.Leaves.{Leaf, slots_of, cut, cut_keys, put, put_rows, add, has_room};
-ghost use Rattle.table_heap.specs.Planning.{MayPut};
 ghost use Rattle.table_heap.specs.Places.{AreApart, AreRows, IsDraft, IsPlaceFor, IsSoFar, HasRoom};
 
 use crate::leaf::LeafSlots;

@@ -7,7 +7,6 @@ mod growing;
 mod law;
 mod layout;
 mod leaf;
-mod limits;
 mod places;
 #[cfg(test)]
 mod plan_tests;
@@ -18,8 +17,8 @@ mod root_edits;
 mod tests;
 mod turns;
 
-pub use law::placed_rows_are_the_rows;
+pub use law::{heaps_keep_by_keys, placed_rows_are_the_rows};
 pub use layout::new_root;
-pub use limits::may_put;
 pub use planning::plan;
 pub use reading::{rows, wants};
+pub use table_walk::may_put;

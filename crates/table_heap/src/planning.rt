@@ -7,13 +7,13 @@ ghost use Rattle.page_fmt.specs.Seen.{SlotsAt, Looked, Shows, Saw, look, place_o
 ghost use Rattle.plain_model.specs.Tables.{Rows};
 ghost use Rattle.table_walk.specs.Index.{Indexes};
 ghost use Rattle.table_walk.specs.Walk.{IsDone, IsSeenWalk};
-ghost use Rattle.table_walk.specs.Tables.{IsBadRow, IsNoRow};
+ghost use Rattle.table_walk.specs.Tables.{IsBadRow, IsNoRow, MayPut};
 ghost use Rattle.table_walk.specs.Answers.{IsAt, IsMemory};
 ghost use Rattle.table_heap.specs.Emission.{read_slots, last_or, IsPlanned};
 ghost use Rattle.table_heap.specs.Heap.{heap_kids, first, RowsAt};
 ghost use Rattle.table_heap.specs.Leaves.{Leaf, slots_of, cut_keys, put_rows};
 ghost use Rattle.table_heap.specs.Places.{AreApart, AreRows, IsDraft};
-ghost use Rattle.table_heap.specs.Planning.{MayPut, Promises};
+ghost use Rattle.table_heap.specs.Planning.{Promises};
 ghost use Rattle.table_heap.specs.Shape.{leaves_in, roots_in};
 
 use crate::draft::Draft;

@@ -1,6 +1,6 @@
 //! The edits of root pages that are to name more.
 
-ghost use Rattle.std.specs.Prelude.{ℕ, List, [], ◌∷◌, ◌++◌, ◌≡◌, ◌≤◌, ◌<◌, ◌+◌, None, Some, OnOk, length, max};
+ghost use Rattle.std.specs.Prelude.{ℕ, List, [], ◌∷◌, ◌++◌, ◌≡◌, ◌≤◌, ◌<◌, ◌+◌, false, None, Some, OnOk, length, max};
 ghost use Rattle.table_heap.specs.Growth.{slots_made, front_edits, name_edits, root_edits};
 
 use crate::growing::RootPage;
@@ -10,13 +10,14 @@ use table_walk::{Edit, EditList, Spot};
 
 // The edit of a slot that names a claimed page.
 fn naming(alloc: Global, spot: Spot, slot: u16, claim: u32) -> Edit
-    ensures { result ≡ record { spot = spot; slot = slot; names = Some claim; bytes = [] } }
+    ensures { result ≡ record { spot = spot; slot = slot; names = Some claim; bytes = []; of_row = false } }
 {
     Edit {
         spot,
         slot,
         names: Some(claim),
         bytes: Bytes::new(alloc),
+        of_row: false,
     }
 }
 
@@ -33,6 +34,7 @@ fn add_none(alloc: Global, spot: Spot, slots: usize, edits: &mut EditList) -> Re
         slot: 0,
         names: None,
         bytes,
+        of_row: false,
     })
 }
 

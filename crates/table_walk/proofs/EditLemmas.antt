@@ -391,7 +391,7 @@ planned spot old new fo fn = record {
   where
     all : (cs : List (ℕ × List ℕ)) → ArePlain spot (map (edit_at spot) cs)
     all [] = tt
-    all (c ∷ cs) = ((refl, refl), all cs)
+    all (c ∷ cs) = ((refl, refl, refl), all cs)
 
     goes : (s : Slots) (cs : List (ℕ × List ℕ)) → used s ≤ 8192 → PageGoes s cs → PageGo s (map (edit_at spot) cs)
     goes s [] small g = tt

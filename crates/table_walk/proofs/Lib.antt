@@ -10,4 +10,6 @@ pub mod PlanLemmas
 pub mod AddressLemmas
 pub mod IndexLemmas
 pub mod EditLemmas
+pub mod FillSlots
+pub mod FillLemmas
 pub mod ClaimLemmas

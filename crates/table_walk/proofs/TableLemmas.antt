@@ -10,7 +10,7 @@ use Rattle.table_walk.specs.declared.refusal.SeenRefusal.TheVariants.{Damaged, M
 use Rattle.table_walk.specs.declared.find.Wants.{Wants}
 use Rattle.table_walk.specs.declared.find.Wants.TheVariants.{Page, Done}
 use Rattle.table_walk.specs.declared.visit.Visit.{Visit}
-use Rattle.table_walk.specs.Walk.{Kids, IsSeenWalk, Lacks, IsBad}
+use Rattle.table_walk.specs.Walk.{IsSeenWalk, Lacks, IsBad}
 use Rattle.table_walk.specs.Tables.{Shape, shown, Gathers, AreRows, IsNoRowOf, HasRows, IsBadRow, IsSomeRow, full, cells, cells_of, is_leaf}
 use Rattle.table_walk.specs.Answers.{IsAt, IsMemory, Tells, OfPage}
 use Rattle.table_walk.proofs.GatherLemmas.{gathered_are, gathers_one, AreRows-parts}

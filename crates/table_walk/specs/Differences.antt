@@ -8,10 +8,10 @@ use Rattle.table_walk.specs.declared.plan.Edit.{Edit}
 use Rattle.table_walk.specs.declared.plan.Spot.{Spot}
 use Rattle.page_base.specs.declared.limits.TheConstants.{MAX_SLOTS, MAX_SLOT_BYTES}
 
--- each edit is of this page, and names no claimed page
+-- each edit is of this page, which holds rows, and names no claimed page
 abbrev pub ArePlain : Spot → List Edit → Type 0
 ArePlain spot [] = Unit {0}
-ArePlain spot (e ∷ es) = ((e.spot ≡ spot) × (e.names ≡ None)) × ArePlain spot es
+ArePlain spot (e ∷ es) = ((e.spot ≡ spot) × (e.names ≡ None) × (e.of_row ≡ true)) × ArePlain spot es
 
 -- an edit fits on a page of these slots, and changes its slot
 pub record SlotFits (slots : List (List ℕ)) (e : Edit) : Type 0 where
@@ -45,7 +45,7 @@ pub record AddsPage (spot : Spot) (old new : List (List ℕ)) (before after : Li
 
 -- the edit of a slot
 abbrev pub edit_at : Spot → ℕ × List ℕ → Edit
-edit_at spot c = record { spot = spot; slot = c.0; names = None; bytes = c.1 }
+edit_at spot c = record { spot = spot; slot = c.0; names = None; bytes = c.1; of_row = true }
 
 -- whether a slot changes, and grows or doesn't
 abbrev pub is_wanted : Bool → List ℕ → List ℕ → Bool

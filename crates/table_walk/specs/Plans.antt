@@ -1,6 +1,7 @@
 -- A plan: edits of slots, done in turn, of pages that the table owns and of pages that it claims.
 use Rattle.std.specs.Prelude.{Bool, false, true, Option, None, Some, ◌≡◌, ◌≢◌, ◌||◌, ℕ, zero, suc, ◌<◌, ◌≤◌, List, [], ◌∷◌, ◌++◌, length}
 use Rattle.std.specs.FinMap as finite
+use Rattle.std.specs.List.{Any}
 use Rattle.page_base.specs.declared.limits.TheConstants.{MAX_SLOTS, MAX_SLOT_BYTES}
 use Rattle.page_base.specs.declared.column.Column.{Column}
 use Rattle.page_base.specs.declared.numbers.PageId.{PageId}
@@ -15,7 +16,7 @@ use Rattle.table_walk.specs.declared.plan.Spot.{Spot}
 use Rattle.table_walk.specs.declared.plan.Spot.TheVariants.{Old, New}
 use Rattle.table_walk.specs.declared.visit.Visit.{Visit}
 use Rattle.table_walk.specs.Addresses.{address, IsTarget}
-use Rattle.table_walk.specs.Tables.{Shape, HasRows}
+use Rattle.table_walk.specs.Tables.{is_leaf, Shape, HasRows}
 
 -- the page of an edit, where these pages are claimed
 abbrev pub place : (ℕ → PageId) → Spot → PageId
@@ -78,6 +79,14 @@ NameBelow n (Some i) = i < n
 -- an edit speaks of the first n claimed pages alone
 abbrev pub IsBelow : ℕ → Edit → Type 0
 IsBelow n e = SpotBelow n e.spot × NameBelow n e.names
+
+-- not edits of one slot
+abbrev pub IsOtherSlot : (ℕ → PageId) → Edit → Edit → Type 0
+IsOtherSlot claimed e f = ¬ ((place claimed e.spot ≡ place claimed f.spot) × (e.slot ≡ f.slot))
+
+-- an edit of a row is of a page that holds rows in this walk
+abbrev pub IsOnLeaf : (ℕ → PageId) → List Visit → Edit → Type 0
+IsOnLeaf claimed done e = e.of_row ≡ true → Any (λ v. (v.page ≡ place claimed e.spot) × (is_leaf v ≡ true)) done
 
 -- each edit lies on such a page
 abbrev pub AreWithin : (ℕ → PageId) → ℕ → (PageId → Bool) → List Edit → Type 0

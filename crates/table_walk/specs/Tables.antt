@@ -8,7 +8,7 @@ use Rattle.page_base.specs.declared.numbers.PageId.{PageId}
 use Rattle.page_base.specs.declared.value.Value.{Value}
 use Rattle.page_fmt.specs.Seen.{SlotsAt, Looked, look}
 use Rattle.plain_model.specs.Tables.{Rows, key_of}
-use Rattle.row_fmt.specs.Rows.{IsRow, row_bytes}
+use Rattle.row_fmt.specs.Rows.{IsRow, IsRowOf, row_bytes}
 use Rattle.row_fmt.specs.Keys.{key_bytes}
 use Rattle.table_walk.specs.declared.visit.Visit.{Visit}
 use Rattle.table_walk.specs.Walk.{Kids, Reaches, IsWalk, IsSeenWalk}
@@ -42,6 +42,12 @@ cells at (v ∷ vs) = cells_of at v ++ cells at vs
 pub record IsSmall (cols : List Column) (row : List Value) : Type 0 where
   pub bytes : length (row_bytes row) ≤ MAX_ROW_BYTES
   pub key : length (key_bytes cols row) ≤ MAX_KEY_BYTES
+
+-- a row that a plan may put: one of these columns, of which there are some, within the limits
+pub record MayPut (cols : List Column) (row : List Value) : Type 0 where
+  pub of : IsRowOf cols row
+  pub small : IsSmall cols row
+  pub some : row ≢ []
 
 -- the rows that these cells spell, by their keys: each cell is a row within the limits, and no two have one key
 abbrev pub Gathers : List Column → List (List ℕ) → Rows → Type 0

@@ -1,4 +1,4 @@
-//! The edits that make one page of another.
+//! The edits that make one page of rows of another.
 
 ghost use Rattle.std.specs.Prelude.{◌≡◌, ◌++◌, ◌<◌, ◌+◌, [], OnOk, map, length, slice_index_or};
 ghost use Rattle.page_fmt.specs.Spelling.{FitsPage};
@@ -50,12 +50,13 @@ fn add_changes(
             slot: i as u16,
             names: None,
             bytes: Bytes::from(Vec::from_slice(alloc, bytes)?),
+            of_row: true,
         })?;
     }
     Ok(())
 }
 
-/// Puts behind others the edits that make the new slots of a page of the old ones: one for each slot that differs, those
+/// Puts behind others the edits that make the new slots of a page of rows of the old ones: one for each slot that differs, those
 /// that don't grow first.
 pub fn add_differences(
     alloc: Global,

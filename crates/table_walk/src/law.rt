@@ -1,15 +1,23 @@
 //! What tables of pages keep, as functions whose contracts say it.
 
-ghost use Rattle.std.specs.Prelude.{◌≡◌, ◌<◌, ◌∷◌, [], true, ℕ, Bool, List, Some};
-ghost use Rattle.std.specs.List.{All};
+ghost use Rattle.std.specs.Prelude.{◌≡◌, ◌≢◌, ◌<◌, ◌∷◌, ◌++◌, [], true, ℕ, Bool, List, Some};
+ghost use Rattle.std.specs.FinMap as finite;
+ghost use Rattle.std.specs.List.{All, AllPairs};
 ghost use Rattle.page_base.specs.declared.column.Column.{Column};
 ghost use Rattle.page_base.specs.declared.numbers.PageId.{PageId};
+ghost use Rattle.page_base.specs.declared.value.Value.{Value};
+ghost use Rattle.page_fmt.specs.Edits.{slot_at};
 ghost use Rattle.page_fmt.specs.Seen.{SlotsAt};
-ghost use Rattle.plain_model.specs.Tables.{Rows};
+ghost use Rattle.plain_model.specs.Tables.{Rows, key_of};
+ghost use Rattle.row_fmt.specs.Rows.{row_bytes};
 ghost use Rattle.table_walk.specs.declared.plan.Edit.{Edit};
+ghost use Rattle.table_walk.specs.declared.plan.Spot.{Spot};
 ghost use Rattle.table_walk.specs.declared.visit.Visit.{Visit};
+ghost use Rattle.table_walk.specs.Differences.{edit_at};
+ghost use Rattle.table_walk.specs.Filling.{IsLike, IsLeafOf, KeepsByKeys};
+ghost use Rattle.table_walk.specs.Walk.{IsWalk};
 ghost use Rattle.table_walk.specs.Addresses.{address, page_at, IsTarget};
-ghost use Rattle.table_walk.specs.Plans.{place, changed, Fits, also, IsBelow, Carries};
+ghost use Rattle.table_walk.specs.Plans.{place, changed, after, Fits, also, IsBelow, IsOtherSlot, Carries};
 ghost use Rattle.table_walk.specs.Tables.{Shape, HasRows};
 
 /// The rows of pages are one map, whichever pages are said to be owned.
@@ -42,4 +50,10 @@ pub fn plans_are_carried_on()
 /// The address of a page that may be named is read as that page.
 pub fn addresses_are_read()
     ensures { (p : PageId) → IsTarget p → page_at (address p) ≡ Some p }
+{}
+
+/// A row that a plan puts may be filled in when it is done: another row of its key, in as many bytes, goes to its slot in
+/// place of it, and the table has that one.
+pub fn a_row_may_be_filled_in()
+    ensures { (shape : Shape) (cols : List Column) (start : Visit) (claimed : ℕ → PageId) (n : ℕ) (at : SlotsAt) (owns : PageId → Bool) (before later : List Edit) (spot : Spot) (slot : ℕ) (row new : List Value) (rows : Rows) → KeepsByKeys shape → IsLike cols row new → AllPairs (IsOtherSlot claimed) (before ++ edit_at spot (slot, row_bytes row) ∷ later) → slot_at (at (place claimed spot)) slot ≢ row_bytes new → ((done : List Visit) → IsWalk shape.kids (after claimed at (before ++ edit_at spot (slot, row_bytes row) ∷ later)) start done [] → IsLeafOf done (place claimed spot)) → Carries shape cols start claimed n at owns (before ++ edit_at spot (slot, row_bytes row) ∷ later) rows → Carries shape cols start claimed n at owns (before ++ edit_at spot (slot, row_bytes new) ∷ later) (finite.insert rows (key_of cols new) new) }
 {}

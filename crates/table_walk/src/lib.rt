@@ -8,6 +8,7 @@ mod index;
 mod key;
 mod law;
 mod layout;
+mod limits;
 mod plan;
 mod refusal;
 mod row_map;
@@ -20,10 +21,11 @@ pub use find::{Find, Wants};
 pub use index::{page_index, place};
 pub use key::{copy_row, key_of};
 pub use law::{
-    addresses_are_read, plans_are_carried_on, plans_depend_on_owned_pages,
+    a_row_may_be_filled_in, addresses_are_read, plans_are_carried_on, plans_depend_on_owned_pages,
     plans_depend_on_the_claimed_pages, rows_are_one, rows_depend_on_owned_pages,
 };
 pub use layout::{Layout, Walked, walk, wants_of};
+pub use limits::may_put;
 pub use plan::{Edit, EditList, Plan, Spot};
 pub use refusal::SeenRefusal;
 pub use row_map::RowMap;

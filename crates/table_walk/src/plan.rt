@@ -10,13 +10,14 @@ pub enum Spot {
 }
 
 /// An edit of one slot. It writes the address of the claimed page that `names` counts, where it counts one, and then
-/// `bytes`; where both are nothing the slot is emptied.
+/// `bytes`; where both are nothing the slot is emptied. `of_row` tells whether its page is one of those that hold rows.
 #[derive(Debug, Drop)]
 pub struct Edit {
     pub spot: Spot,
     pub slot: u16,
     pub names: Option<u32>,
     pub bytes: Bytes,
+    pub of_row: bool,
 }
 
 /// Edits in the order in which they are done.

@@ -4,8 +4,8 @@ use Rattle.std.proofs.lemmas.List.{take_more, take_all}
 use Rattle.std.proofs.lemmas.Bool.{false≢true, iff_false}
 use Rattle.std.proofs.lemmas.List.Elements.{All-push}
 use Rattle.table_walk.proofs.RowsLemmas.{Key}
-use Rattle.table_heap.specs.Planning.{MayPut}
-use Rattle.table_heap.proofs.limits.may_put.Goals as goal
+use Rattle.table_walk.specs.Tables.{MayPut}
+use Rattle.table_walk.proofs.limits.may_put.Goals as goal
 
 pub loop-row-preserved : goal.loop-row-preserved
 loop-row-preserved c =

@@ -1,7 +1,7 @@
 //! Which rows a plan may put.
 
 ghost use Rattle.std.specs.Prelude.{◌↔◌, IsTrue, All, IfOk};
-ghost use Rattle.table_heap.specs.Planning.{MayPut};
+ghost use Rattle.table_walk.specs.Tables.{MayPut};
 
 use page_base::{Columns, MAX_KEY_BYTES, MAX_ROW_BYTES, NoMemory, Row, RowList};
 use row_fmt::{encode, fits, key_size};
