@@ -1,14 +1,13 @@
 -- Snapshots by the numbers of their cuts.
-use Rattle.std.proofs.Common.{◌≡◌, ◌≢◌, ℕ, ◌+◌, ◌<◌, ◌≤◌, inl, inr, Bool, true, false, ◌==◌, Option, Some, None, is_some, option_map, refl, ap, sym, ◌∙◌, arith, subst, eq-eqb, eqb-true}
-use Rattle.std.proofs.lemmas.Bool.{cases_eq, cases_lt, ne_eqb, false≢true}
+use Rattle.std.proofs.Common.{◌≡◌, ◌≢◌, ℕ, ◌+◌, ◌<◌, Bool, ◌==◌, Option, Some, None, option_map, refl, ap, sym, ◌∙◌, arith, subst, eq-eqb, eqb-true}
+use Rattle.std.proofs.lemmas.Bool.{ne_eqb, false≢true}
 use Rattle.page_base.specs.declared.numbers.SnapNo.{SnapNo}
-use Rattle.sparse_set.specs.Sparse.{Sparse}
-use Rattle.snap_cat.specs.Catalog.{Snap, Catalog, IsCatalog, HasSnap, snap_at}
+use Rattle.snap_cat.specs.Catalog.{Catalog, IsCatalog, snap_at}
 use Rattle.snap_pages.specs.Shown.{Shown, IsOpen, count, catalog, cut_of, set_of}
 use Rattle.snap_pages.specs.Places.{first_from}
 use Rattle.snap_pages.specs.Cuts.{place_in, place_of, snap_by}
 use Rattle.snap_pages.specs.Steps.{ChangesSet}
-use Rattle.snap_pages.proofs.PlaceLemmas.{IsFirst, Answers, first_from_is, first_from_none, first_from_answers}
+use Rattle.snap_pages.proofs.PlaceLemmas.{Answers, first_from_is, first_from_none, first_from_answers}
 
 -- whether a place is that of a cut
 abbrev pub has_cut : Shown → ℕ → SnapNo → Bool

@@ -1,5 +1,5 @@
 -- Whether a page is due, as a test and as a fact.
-use Rattle.std.proofs.Common.{◌≡◌, ◌≢◌, ℕ, ◌+◌, ◌<◌, ◌≤◌, ◌⊎◌, inl, inr, Bool, true, false, not, ◌&&◌, List, Some, None, refl, ap, sym, ◌∙◌, arith, subst}
+use Rattle.std.proofs.Common.{◌≡◌, ◌≢◌, ◌<◌, ◌≤◌, ◌⊎◌, inl, inr, Bool, true, false, not, ◌&&◌, List, Some, None, refl, ap, sym, ◌∙◌, arith, subst}
 use Rattle.std.proofs.lemmas.Bool.{cases_eq, cases_lt, and_parts, false≢true}
 use Rattle.std.proofs.lemmas.List.{get_or_past}
 use Rattle.page_base.specs.declared.numbers.PageId.{PageId}
@@ -11,7 +11,7 @@ use Rattle.snap_cat.specs.declared.snapshot.SnapState.TheVariants.{Making, Onlin
 use Rattle.snap_pages.specs.Shown.{Shown, IsOpen, count, catalog, set_of, state_of}
 use Rattle.snap_pages.specs.Dues.{IsDue, IsPushed, IsFirstDue, NoneNewDue, is_sound, is_due, next_due}
 use Rattle.snap_pages.specs.Steps.{ChangesSet}
-use Rattle.snap_pages.proofs.PlaceLemmas.{IsFirst, first_from_is, first_from_none}
+use Rattle.snap_pages.proofs.PlaceLemmas.{first_from_is, first_from_none}
 
 -- a place that no snapshot has counts as suspect
 pub suspect_past : (v : Shown) (s : SnapNo) → count v ≤ s.0 → state_of v s ≡ Suspect

@@ -1,8 +1,8 @@
 -- One snapshot more, behind all others.
-use Rattle.std.proofs.Common.{◌≡◌, ◌≢◌, ◌⊎◌, ℕ, ◌+◌, ◌<◌, ◌≤◌, inl, inr, IsTrue, List, [], ◌∷◌, ◌++◌, length, get_or, Option, Some, None, is_some, option_map, refl, ap, sym, ◌∙◌, arith, subst}
+use Rattle.std.proofs.Common.{◌≡◌, ◌≢◌, ◌⊎◌, ℕ, ◌+◌, ◌<◌, ◌≤◌, inl, inr, IsTrue, List, [], ◌∷◌, ◌++◌, length, get_or, Option, Some, is_some, option_map, refl, ap, sym, ◌∙◌, arith, subst}
 use Rattle.std.proofs.Math.ListN.{length-append}
 use Rattle.std.proofs.Math.Seq.{get_or-append_seam}
-use Rattle.std.proofs.lemmas.Bool.{cases_eq, cases_lt}
+use Rattle.std.proofs.lemmas.Bool.{cases_lt}
 use Rattle.std.proofs.lemmas.List.{get_or_append_left}
 use Rattle.page_base.specs.declared.numbers.SnapNo.{SnapNo}
 use Rattle.page_base.specs.declared.numbers.PageId.{PageId}
@@ -13,7 +13,7 @@ use Rattle.sparse_set.specs.Sparse.{Sparse, no_set, IsEmptyMap}
 use Rattle.snap_cat.specs.Catalog.{Snap, Catalog, no_snap, snap_at}
 use Rattle.snap_cat.specs.declared.snapshot.SnapState.TheVariants.{Suspect}
 use Rattle.snap_pages.specs.Shown.{Shown, img, pins, counts, catalog, count, IsOpen, set_of, cut_of, IsWhole}
-use Rattle.snap_pages.specs.Views.{seen, IsKept, OpensView, CutsView}
+use Rattle.snap_pages.specs.Views.{seen, OpensView, CutsView}
 use Rattle.snap_pages.specs.Owed.{count_on, with_pins_of, AreOwed}
 use Rattle.snap_pages.specs.Cuts.{place_of, ComesBy}
 use Rattle.snap_pages.proofs.SeenLemmas.{see_empty}

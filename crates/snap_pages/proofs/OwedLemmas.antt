@@ -1,5 +1,5 @@
 -- One snapshot's entry in the catalog changes, and its cut stays.
-use Rattle.std.proofs.Common.{get_or-set_same, get_or-set_other, ◌≡◌, ◌≢◌, ◌≤◌, ◌<◌, ℕ, inl, inr, List, [], ◌∷◌, ◌++◌, length, get_or, refl, ap, sym, ◌∙◌, subst}
+use Rattle.std.proofs.Common.{get_or-set_same, get_or-set_other, ◌≡◌, ◌≤◌, ◌<◌, ℕ, inl, inr, List, [], ◌∷◌, ◌++◌, length, refl, ap, sym, ◌∙◌, subst}
 use Rattle.std.proofs.Math.ListN.{set, length-set}
 use Rattle.std.proofs.lemmas.Bool.{cases_eq}
 use Rattle.page_base.specs.declared.numbers.PageId.{PageId}
@@ -14,18 +14,18 @@ use Rattle.snap_pages.specs.Steps.{SamePlaces}
 use Rattle.snap_pages.proofs.CutLemmas.{same_places}
 use Rattle.snap_pages.proofs.PinLemmas.{last_pinned, owed_still}
 
-module _ (cat : Catalog) (s : SnapNo) (x : Snap) (has : HasSnap cat s) where
-  abbrev swapped : Catalog
-  swapped = record cat { snaps = set cat.snaps s.0 x }
+abbrev swapped : Catalog → SnapNo → Snap → Catalog
+swapped cat s x = record cat { snaps = set cat.snaps s.0 x }
 
-  pub snap_here : snap_at swapped s ≡ x
+module _ (cat : Catalog) (s : SnapNo) (x : Snap) (has : HasSnap cat s) where
+  pub snap_here : snap_at (swapped cat s x) s ≡ x
   snap_here = get_or-set_same cat.snaps s.0 x no_snap has
 
-  cut_same : x.cut ≡ (snap_at cat s).cut → (k : SnapNo) → (snap_at swapped k).cut ≡ (snap_at cat k).cut
+  cut_same : x.cut ≡ (snap_at cat s).cut → (k : SnapNo) → (snap_at (swapped cat s x) k).cut ≡ (snap_at cat k).cut
   cut_same same k = elim (cases_eq k.0 s.0) [
     | inl e ↦
         let is : k ≡ s = λ i. record { 0 = e i } in
-        ap (λ (j : SnapNo). (snap_at swapped j).cut) is ∙ ap (λ (y : Snap). y.cut) snap_here ∙ same ∙ sym (ap (λ (j : SnapNo). (snap_at cat j).cut) is)
+        ap (λ (j : SnapNo). (snap_at (swapped cat s x) j).cut) is ∙ ap (λ (y : Snap). y.cut) snap_here ∙ same ∙ sym (ap (λ (j : SnapNo). (snap_at cat j).cut) is)
     | inr ne ↦ ap (λ (y : Snap). y.cut) (get_or-set_other cat.snaps s.0 k.0 x no_snap ne)
   ]
 

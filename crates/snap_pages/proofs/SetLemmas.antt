@@ -1,7 +1,6 @@
 -- One snapshot's sparse files in their place among all.
-use Rattle.std.proofs.Common.{get_or-set_same, get_or-set_other, ◌≡◌, ◌≢◌, ◌<◌, ℕ, inl, inr, IsTrue, List, true, false, get_or, refl, ap, sym, ◌∙◌, subst, Result, arith}
+use Rattle.std.proofs.Common.{get_or-set_same, get_or-set_other, ◌≡◌, ◌<◌, ℕ, inl, inr, IsTrue, List, length, true, false, get_or, refl, ap, sym, ◌∙◌, subst, Result, arith}
 use Rattle.std.specs.Prelude.{OnOk}
-use Rattle.std.proofs.Math.ListN.{set}
 use Rattle.std.proofs.lemmas.Bool.{false≢true}
 use Rattle.std.proofs.lemmas.List.{get_or_default}
 use Rattle.std.proofs.lemmas.Result.{on_ok_weaker}

@@ -1,6 +1,6 @@
 -- One snapshot less; the later ones close up.
-use Rattle.std.proofs.Common.{◌≡◌, ◌≢◌, ℕ, ◌+◌, ◌-◌, ◌<◌, ◌≤◌, inl, inr, IsTrue, List, length, get_or, Option, Some, None, is_some, option_map, remove, refl, ap, sym, ◌∙◌, arith, subst}
-use Rattle.std.proofs.lemmas.Bool.{cases_eq, cases_lt}
+use Rattle.std.proofs.Common.{◌≡◌, ◌≢◌, ℕ, ◌+◌, ◌-◌, ◌<◌, inl, inr, IsTrue, List, length, get_or, Option, Some, is_some, option_map, remove, ap, sym, ◌∙◌, arith, subst}
+use Rattle.std.proofs.lemmas.Bool.{cases_lt}
 use Rattle.std.proofs.lemmas.List.Edits.{length-remove, get_or-remove_below, get_or-remove_above}
 use Rattle.page_base.specs.declared.numbers.SnapNo.{SnapNo}
 use Rattle.page_dev.specs.Files.{Files}
@@ -9,9 +9,9 @@ use Rattle.buf_pool.specs.Steps.{SameShown}
 use Rattle.sparse_set.specs.Sparse.{Sparse, no_set}
 use Rattle.snap_cat.specs.Catalog.{Snap, Catalog, IsCatalog, snap_at, former, without}
 use Rattle.snap_cat.specs.declared.snapshot.SnapState.TheVariants.{Suspect}
-use Rattle.snap_cat.proofs.CatalogLemmas.{Former, Before, Behind, former_of, snap_at-without, HasSnap-former}
+use Rattle.snap_cat.proofs.CatalogLemmas.{Before, Behind, former_of, snap_at-without, HasSnap-former}
 use Rattle.snap_pages.specs.Shown.{Shown, img, counts, catalog, count, IsOpen, set_of, cut_of, IsWhole}
-use Rattle.snap_pages.specs.Views.{seen, IsKept, ClosesUp}
+use Rattle.snap_pages.specs.Views.{seen, ClosesUp}
 use Rattle.snap_pages.specs.Cuts.{place_of, GoesBy}
 use Rattle.snap_pages.proofs.CutLemmas.{place_is, place_none, place_some, place_lacks, by_place}
 

@@ -1,5 +1,5 @@
 -- What keeps the views of snapshots.
-use Rattle.std.proofs.Common.{◌≡◌, ◌≢◌, inl, inr, IsTrue, List, ℕ, refl, ap, sym, ◌∙◌, subst, true, false, Result}
+use Rattle.std.proofs.Common.{◌≡◌, ◌≢◌, inl, inr, IsTrue, List, ℕ, ap, sym, ◌∙◌, subst, true, false, Result}
 use Rattle.std.proofs.lemmas.Bool.{cases_eq}
 use Rattle.std.proofs.lemmas.Result.{on_ok_weaker}
 use Rattle.page_base.specs.declared.numbers.PageId.{PageId}

@@ -6,6 +6,7 @@ ghost use Rattle.page_base.specs.declared.numbers.PageId.{PageId};
 ghost use Rattle.page_dev.specs.Faults.{HasCause, total};
 ghost use Rattle.buf_pool.specs.Pool.{is_dirty};
 ghost use Rattle.buf_pool.specs.Order.{order, waiting};
+ghost use Rattle.buf_pool.specs.Calls.{save_calls, saving_calls};
 ghost use Rattle.buf_pool.specs.Steps.{Stays};
 ghost use Rattle.snap_pages.specs.Views.{KeepsViews};
 ghost use Rattle.snap_pages.specs.Steps.{SameSnaps, SamePlaces};
@@ -23,6 +24,7 @@ impl<P: PageFile> SnapPages<P> {
         ensures some { IfOk result (λ found. found ≡ is_some (waiting self.old.pool)) }
         ensures clean { OnOk result ((q : PageId) → waiting self.old.pool ≡ Some q → is_dirty self.new.pool q ≡ false) }
         ensures others { (q : PageId) → (waiting self.old.pool ≡ Some q → ⊥) → is_dirty self.new.pool q ≡ is_dirty self.old.pool q }
+        ensures calls { self.new.pool.files.calls ≡ saving_calls self.old.pool (waiting self.old.pool) }
         ensures cause { HasCause (total self.old.pool.files.failures) (total self.new.pool.files.failures) result }
         ensures snaps { SameSnaps self.old self.new }
         ensures places { SamePlaces self.old self.new }
@@ -39,6 +41,7 @@ impl<P: PageFile> SnapPages<P> {
         ensures some { IfOk result (λ found. found ≡ is_dirty self.old.pool p) }
         ensures clean { OnOk result (is_dirty self.new.pool p ≡ false) }
         ensures others { (q : PageId) → is_page p q ≡ false → is_dirty self.new.pool q ≡ is_dirty self.old.pool q }
+        ensures calls { self.new.pool.files.calls ≡ save_calls self.old.pool p }
         ensures cause { HasCause (total self.old.pool.files.failures) (total self.new.pool.files.failures) result }
         ensures snaps { SameSnaps self.old self.new }
         ensures places { SamePlaces self.old self.new }

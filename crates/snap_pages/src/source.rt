@@ -1,7 +1,8 @@
 //! The source's pages are brought in and pinned as the pool does it, and no snapshot shows another page for it.
 
-ghost use Rattle.std.specs.Prelude.{◌≡◌, ◌<◌, ◌^◌, OnOk, OnErr, IfErr};
-ghost use Rattle.buf_pool.specs.Pool.{with_pin, without_pin, IsPooled};
+ghost use Rattle.std.specs.Prelude.{◌≡◌, ◌<◌, ◌^◌, None, OnOk, OnErr, IfErr};
+ghost use Rattle.buf_pool.specs.Pool.{frame_of, with_pin, without_pin, IsPooled};
+ghost use Rattle.buf_pool.specs.Calls.{read_calls, RefusedCalls};
 ghost use Rattle.buf_pool.specs.Order.{order, order_used};
 ghost use Rattle.buf_pool.specs.Refusing.{Refuses, IsStuck};
 ghost use Rattle.buf_pool.specs.Steps.{Stays, PinsOnce, SameShown};
@@ -17,7 +18,7 @@ use std::alloc::Global;
 
 impl<P: PageFile> SnapPages<P> {
     /// Brings in a source page and pins it once, as `Pool::fetch` does. Each refusal comes by its cause, and leaves all
-    /// pins.
+    /// pins. No call on a file is tried again.
     pub fn fetch_source(&mut self, alloc: Global, p: PageId) -> Result<(), FetchRefusal>
         requires there { IsThere self.old p }
         requires few { pins self.old p < 2 ^ 100 }
@@ -26,6 +27,8 @@ impl<P: PageFile> SnapPages<P> {
         ensures free { OnOk result (¬ IsStuck self.old.pool p) }
         ensures first { OnOk result (order self.new.pool ≡ order_used self.old.pool p) }
         ensures no_calls { IsPooled self.old.pool p → self.new.pool.files ≡ self.old.pool.files }
+        ensures called { frame_of self.old.pool p ≡ None → OnOk result (self.new.pool.files.calls ≡ read_calls self.old.pool p) }
+        ensures calls { IfErr result (RefusedCalls self.old.pool self.new.pool p) }
         ensures refused { IfErr result (Refuses self.old.pool self.new.pool p) }
         ensures snaps { SameSnaps self.old self.new }
         ensures places { SamePlaces self.old self.new }

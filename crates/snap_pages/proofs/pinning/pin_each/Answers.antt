@@ -3,7 +3,6 @@ use Rattle.std.proofs.Common.{◌≡◌, ◌<◌, ◌^◌, ℕ, sym, ap, subst, 
 use Rattle.page_base.specs.declared.numbers.PageId.{PageId}
 use Rattle.rec_log.specs.Records.{Record}
 use Rattle.buf_pool.specs.Pool.{pins, with_pin}
-use Rattle.buf_pool.specs.Steps.{SameShown}
 use Rattle.snap_pages.proofs.PinLemmas.{pinned_before, room_for_pin, with_pins_more, shown_trans}
 use Rattle.snap_pages.proofs.pinning.pin_each.Goals as goal
 

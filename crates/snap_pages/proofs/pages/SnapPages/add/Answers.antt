@@ -1,6 +1,5 @@
 -- The new snapshot stands behind all others, with a pin for each record that it owes.
-use Rattle.std.proofs.Common.{◌≡◌, ap, sym, subst, ◌∙◌, [], ◌∷◌, ◌++◌}
-use Rattle.rec_log.specs.Records.{Record}
+use Rattle.std.proofs.Common.{◌≡◌, ap, subst, ◌∙◌}
 use Rattle.buf_pool.specs.Pool.{pins as pool_pins}
 use Rattle.snap_cat.specs.Catalog.{Snap, Catalog}
 use Rattle.snap_cat.specs.declared.snapshot.SnapState.TheVariants.{Making}
@@ -26,7 +25,7 @@ returns-clause-cuts g c =
     let x : Snap = record { name = c.args.name; files = c.args.files; cut = v.cat.next_cut; state = Making; owed = c.args.owed } in
     let new : Shown = record { pool = c.pin_each.new.pool; cat = c.add.new.self; sets = c.push_reserved.new.self.items } in
     let grows : Grows x c.args.set v new = grown v new.pool new.cat new.sets x c.args.set c.pin_each.ensures.shown (ap (λ (cat : Catalog). cat.snaps) c.add.ensures.added) c.push_reserved.ensures.items in
-    subst (λ (y : Shown). ComesBy y.cat.next_cut y new) e (comes x c.args.set v new c.self.invariant.0 grows c.count-_snaps.ensures.catalog.below)
+    subst (λ (y : Shown). ComesBy y.cat.next_cut y new) e (comes x c.args.set v new c.self.invariant.0 grows c.count-snaps.ensures.catalog.below)
 
 pub returns-clause-views : goal.returns-clause-views
 returns-clause-views g c =

@@ -1,9 +1,8 @@
 -- The later snapshots close up, and the pins of the one that goes are taken back.
 use Rattle.std.proofs.Common.{◌≡◌, ◌≤◌, ap, sym, subst, ◌∙◌, arith}
-use Rattle.page_base.specs.declared.numbers.PageId.{PageId}
-use Rattle.rec_log.specs.Records.{Record, WorkOf}
+use Rattle.rec_log.specs.Records.{WorkOf}
 use Rattle.buf_pool.specs.Pool.{pins as pool_pins}
-use Rattle.snap_pages.specs.Shown.{Shown, IsOpen, cut_of, owes_of}
+use Rattle.snap_pages.specs.Shown.{Shown, IsOpen, cut_of}
 use Rattle.snap_pages.specs.Views.{ClosesUp}
 use Rattle.snap_pages.specs.Owed.{AreOwed, count_on}
 use Rattle.snap_pages.specs.Cuts.{GoesBy}
@@ -35,7 +34,7 @@ returns-clause-cuts g c =
     let there : IsOpen v c.args.s = subst (λ (x : Shown). IsOpen x c.args.s) (sym e) c.requires.snap in
     let new : Shown = record { pool = c.unpin_each.new.pool; cat = c.remove.new.self; sets = c.remove-2.new.self.items } in
     let shrinks : Shrinks c.args.s v new = shrunk c.args.s v new.pool new.cat new.sets c.unpin_each.ensures.shown c.remove.ensures c.remove-2.ensures.items in
-    subst (λ (x : Shown). GoesBy (cut_of x c.args.s) x new) e (goes c.args.s v new c.self.invariant.0 there shrinks c.count-_snaps.ensures.catalog)
+    subst (λ (x : Shown). GoesBy (cut_of x c.args.s) x new) e (goes c.args.s v new c.self.invariant.0 there shrinks c.count-snaps.ensures.catalog)
 
 pub returns-clause-views : goal.returns-clause-views
 returns-clause-views g c =
