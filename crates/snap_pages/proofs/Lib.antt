@@ -8,5 +8,6 @@ pub mod CutLemmas
 pub mod PinLemmas
 pub mod SetLemmas
 mod OwedLemmas
+mod SwapLemmas
 mod GrowLemmas
 mod ShrinkLemmas

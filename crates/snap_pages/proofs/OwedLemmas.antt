@@ -10,11 +10,12 @@ use Rattle.snap_cat.specs.Catalog.{Snap, Catalog, no_snap, snap_at, HasSnap, wit
 use Rattle.snap_cat.specs.declared.snapshot.SnapState.{SnapState}
 use Rattle.snap_pages.specs.Shown.{Shown, catalog, count, cut_of, IsOpen, owes_of, with_catalog}
 use Rattle.snap_pages.specs.Owed.{count_on, AreOwed}
+use Rattle.snap_pages.specs.Cuts.{place_of}
 use Rattle.snap_pages.specs.Steps.{SamePlaces}
 use Rattle.snap_pages.proofs.CutLemmas.{same_places}
 use Rattle.snap_pages.proofs.PinLemmas.{last_pinned, owed_still}
 
-abbrev swapped : Catalog → SnapNo → Snap → Catalog
+abbrev pub swapped : Catalog → SnapNo → Snap → Catalog
 swapped cat s x = record cat { snaps = set cat.snaps s.0 x }
 
 module _ (cat : Catalog) (s : SnapNo) (x : Snap) (has : HasSnap cat s) where
@@ -38,6 +39,10 @@ swap_places v new s x has is same counts = record {
   where
     many : count new ≡ count v
     many = ap (λ (c : Catalog). length c.snaps) is ∙ length-set (catalog v).snaps s.0 x
+
+-- each cut has the place that it had
+pub swap_place : (v : Shown) (s : SnapNo) (x : Snap) → IsOpen v s → x.cut ≡ cut_of v s → place_of (with_catalog v (swapped (catalog v) s x)) ≡ place_of v
+swap_place v s x has same = (swap_places v (with_catalog v (swapped (catalog v) s x)) s x has refl same refl).places
 
 pub state_places : (v : Shown) (s : SnapNo) (to : SnapState) (cat : Catalog) → IsOpen v s → cat ≡ with_state (catalog v) s to → SamePlaces v (with_catalog v cat)
 state_places v s to cat has is = swap_places v (with_catalog v cat) s _ has is refl refl

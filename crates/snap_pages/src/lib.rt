@@ -16,6 +16,9 @@ mod source;
 #[cfg(test)]
 mod tests;
 
-pub use law::{cuts_name_places, sets_change_by_cut};
+pub use law::{
+    cuts_name_places, debts_change_by_cut, sets_change_by_cut, snapshots_stay_by_cut,
+    states_change_by_cut,
+};
 pub use pages::{SnapPages, may_move};
 pub use place::Place;
