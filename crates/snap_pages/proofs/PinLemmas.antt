@@ -1,11 +1,13 @@
 -- Pins that are put on the pages of records, or taken from them, one record after the other.
-use Rattle.std.proofs.Common.{◌≡◌, ℕ, ◌+◌, ◌-◌, ◌^◌, ◌<◌, ◌≤◌, Bool, true, false, cond, List, [], ◌∷◌, ◌++◌, length, take, get_or, ap, sym, ◌∙◌, arith, add-zero}
+use Rattle.std.proofs.Common.{◌≡◌, ℕ, ◌+◌, ◌-◌, ◌^◌, ◌<◌, ◌≤◌, Bool, true, false, cond, List, [], ◌∷◌, ◌++◌, length, take, get_or, ap, sym, ◌∙◌, arith, add-zero, refl, Option, Some, None, is_some}
 use Rattle.std.proofs.lemmas.List.Sums.{sum_by_more, sum_by_more_le, sum_by-append}
 use Rattle.page_base.specs.declared.numbers.PageId.{PageId}
 use Rattle.page_base.specs.Pages.{is_page}
 use Rattle.page_base.proofs.PagesLemmas.{is_page-same}
 use Rattle.rec_log.specs.Records.{Record}
-use Rattle.buf_pool.specs.Pool.{Pooled, with_pin, without_pin}
+use Rattle.std.specs.Option.{option_map_or}
+use Rattle.buf_pool.specs.declared.frame.Frame.{Frame}
+use Rattle.buf_pool.specs.Pool.{Pooled, IsPinned, IsPooled, frame_of, with_pin, without_pin}
 use Rattle.buf_pool.specs.Steps.{SameShown}
 use Rattle.snap_pages.specs.Owed.{count_on, with_pins_of, without_pins_of}
 
@@ -48,6 +50,14 @@ module _ (f : PageId → ℕ) (records : List Record) (i : ℕ) (r : Record) (lt
   pub pinned_still : ((p : PageId) → count_on records p ≤ f p) → 0 < without_pins_of (take i records) f r.page
   pinned_still owed = let below = count_on_below records i r lt is in let all = owed r.page in omega arith
 
+-- a page that is pinned and then let go
+pin_there : (b : Bool) (n : ℕ) → cond b (cond b (n + 1) n - 1) (cond b (n + 1) n) ≡ n
+pin_there true n = omega arith
+pin_there false n = refl
+
+pub pin_unpin : (f : PageId → ℕ) (p : PageId) → without_pin (with_pin f p) p ≡ f
+pin_unpin f p = λ t q. pin_there (is_page p q) (f q) t
+
 -- THE LAST RECORD IS DROPPED
 
 pub count_on_push : (front : List Record) (r : Record) (p : PageId) → count_on (front ++ r ∷ []) p ≡ count_on front p + one_on p r
@@ -69,3 +79,11 @@ owed_still f front r owed p = less_one (is_page r.page p) (f p) (count_on front 
 
 pub shown_trans : (a b c : Pooled) → SameShown a b → SameShown b c → SameShown a c
 shown_trans a b c x y = record { images = y.images ∙ x.images; order = y.order ∙ x.order; files = y.files ∙ x.files; frames = y.frames ∙ x.frames }
+
+-- a pinned page is in memory
+pub pinned_pooled : (v : Pooled) (p : PageId) → IsPinned v p → IsPooled v p
+pinned_pooled v p pinned = by_frame (frame_of v p) pinned
+  where
+    by_frame : (f : Option Frame) → 0 < option_map_or (λ (x : Frame). x.pins) f 0 → is_some f ≡ true
+    by_frame None lt = absurd (omega arith)
+    by_frame (Some x) lt = refl

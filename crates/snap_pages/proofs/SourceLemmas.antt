@@ -47,7 +47,11 @@ slots_set images p new i x is = λ t q j. (elim (cases_page q p) as (λ c. slots
       ∙ sym (ap (λ (b : Bool). cond (b && i == j) x (slot_at (content (images q)) j)) other)
 ]) t
 
+-- an image whose slots are another's but for one
+pub slots_edited : (images : PageId → List ℕ) (p : PageId) (new : List ℕ) (i : ℕ) (x : List ℕ) → content new ≡ edited (content (images p)) i x → slots_of (set_at images p new) ≡ with_slot (slots_of images) p i x
+slots_edited images p new i x is = slots_set images p new i x (ap (λ s. slot_at s) is ∙ slot_at-edited (content (images p)) i x)
+
 -- one slot was edited
 pub slots_changed : (v : Shown) (pool : Pooled) (p : PageId) (i : ℕ) (x : List ℕ) → pool_img pool ≡ set_at (pool_img v.pool) p (pool_img pool p) → content (pool_img pool p) ≡ edited (content (pool_img v.pool p)) i x → SetsSlot v (with_pool v pool) p i x
 slots_changed v pool p i x images is =
-    ap slots_of images ∙ slots_set (pool_img v.pool) p (pool_img pool p) i x (ap (λ s. slot_at s) is ∙ slot_at-edited (content (pool_img v.pool p)) i x)
+    ap slots_of images ∙ slots_edited (pool_img v.pool) p (pool_img pool p) i x is

@@ -1,11 +1,11 @@
 //! How pages with snapshots over them are kept: the data files' pages, the catalog, and sparse files in the catalog's order.
 
-ghost use Rattle.std.specs.Prelude.{◌≡◌, ◌<◌, ◌↔◌, true, IfOk, IfErr};
-ghost use Rattle.page_base.specs.declared.numbers.SnapNo.{SnapNo};
+ghost use Rattle.std.specs.Prelude.{◌≡◌, ◌<◌, IfOk, IfErr};
+ghost use Rattle.page_base.specs.declared.numbers.PageId.{PageId};
+ghost use Rattle.page_fmt.specs.Content.{IsPage};
 ghost use Rattle.buf_pool.specs.Pool.{IsSound};
-ghost use Rattle.sparse_set.specs.Sparse.{is_copied};
 ghost use Rattle.snap_cat.specs.Catalog.{IsCatalog};
-ghost use Rattle.snap_pages.specs.Shown.{unshared, catalog, count, IsOpen, IsWhole, set_of};
+ghost use Rattle.snap_pages.specs.Shown.{unshared, catalog, count, img, IsOpen, IsPinned, IsThere, IsWhole, set_of};
 
 use buf_pool::Pool;
 use page_base::{MAX_SNAPSHOTS, SnapNo};
@@ -59,10 +59,11 @@ impl<P: PageFile> SnapPages<P> {
         }
     }
 
-    /// The source's pages, for reading.
+    /// The source's pages, for reading. A pinned page is one of the source's and a page of the format.
     pub fn pool(&self) -> &Pool<P>
         ensures pool { result.now ≡ self.now.pool }
         ensures sound { IsSound self.now.pool }
+        ensures there { (p : PageId) → IsPinned self.now p → IsThere self.now p × IsPage (img self.now p) }
     {
         self.pool.keeps_pages();
         &self.pool

@@ -1,9 +1,11 @@
 //! A reader of a snapshot looks where a page is, and reads a copy from its sparse file each time anew.
 
 ghost use Rattle.std.specs.Prelude.{◌≡◌, true, IsTrue, OnOk};
+ghost use Rattle.page_base.specs.declared.numbers.PageId.{PageId};
 ghost use Rattle.sparse_set.specs.Sparse.{is_copied, Reads};
 ghost use Rattle.snap_pages.specs.Shown.{IsOpen, IsThere, set_of};
 ghost use Rattle.snap_pages.specs.Views.{looked, view, KeepsViews};
+ghost use Rattle.snap_pages.specs.Dues.{NoneNewDue};
 ghost use Rattle.snap_pages.specs.Steps.{ChangesSet, CallsOnce, SamePlaces};
 
 use crate::{Place, SnapPages};
@@ -35,6 +37,7 @@ impl<P: PageFile> SnapPages<P> {
         ensures calls { CallsOnce s p self.old self.new }
         ensures places { SamePlaces self.old self.new }
         ensures views { KeepsViews self.old self.new }
+        ensures dues { (q : PageId) → NoneNewDue self.old self.new q }
     {
         let set = &mut self.sets[s.0 as usize];
         set.read(p, into)
