@@ -3,7 +3,7 @@
 ghost use Rattle.std.specs.Prelude.{◌≡◌, ◌<◌, ◌≤◌, ◌↔◌, IsTrue, IfOk, IfErr, length, slice_index};
 ghost use Rattle.page_dev.specs.Faults.{total};
 ghost use Rattle.page_fmt.specs.Content.{IsPage};
-ghost use Rattle.buf_pool.specs.Pool.{unused, img, IsPooled, IsPinned};
+ghost use Rattle.buf_pool.specs.Pool.{unused, img, IsPooled, IsPinned, IsSound};
 
 use crate::Frame;
 use lru::LruCache;
@@ -42,6 +42,13 @@ impl<P: PageFile> Pool<P> {
             Ok(frames) => Ok(Pool { files, frames }),
             Err(_) => Err(PoolRefused { files }),
         }
+    }
+
+    /// For proofs alone: what the type keeps of each page in memory. Does nothing when it runs.
+    pub fn keeps_pages(&self)
+        ensures { IsSound self.now }
+    {
+        let _files = &self.files;
     }
 
     // Whether a page is in memory.

@@ -12,16 +12,16 @@ use Rattle.snap_cat.specs.Catalog.{Snap, Catalog, no_snap, snap_at, HasSnap, IsC
 
 module _ (cat : Catalog) (s : Snap) (next : ℕ) where
   -- the catalog with a snapshot more at the end, and another next cut
-  abbrev more : Catalog
+  abbrev pub more : Catalog
   more = record { snaps = cat.snaps ++ s ∷ []; next_cut = next }
 
-  older : (k : SnapNo) → HasSnap cat k → snap_at more k ≡ snap_at cat k
+  pub older : (k : SnapNo) → HasSnap cat k → snap_at more k ≡ snap_at cat k
   older k lt = get_or_append_left cat.snaps _ no_snap k.0 lt
 
-  newest : (k : SnapNo) → k.0 ≡ length cat.snaps → snap_at more k ≡ s
+  pub newest : (k : SnapNo) → k.0 ≡ length cat.snaps → snap_at more k ≡ s
   newest k e = ap (λ n. get_or more.snaps n no_snap) e ∙ get_or-append_seam cat.snaps _ [] no_snap
 
-  cases_new : (k : SnapNo) → HasSnap more k → HasSnap cat k ⊎ (k.0 ≡ length cat.snaps)
+  pub cases_new : (k : SnapNo) → HasSnap more k → HasSnap cat k ⊎ (k.0 ≡ length cat.snaps)
   cases_new k h =
       elim (cases_lt k.0 (length cat.snaps)) [
         | inl lt ↦ inl lt

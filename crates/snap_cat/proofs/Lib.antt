@@ -1,1 +1,1 @@
-mod CatalogLemmas
+pub mod CatalogLemmas

@@ -1,0 +1,11 @@
+use Rattle.std.proofs.Common.{◌≡◌, take}
+use Rattle.buf_pool.specs.Pool.{pins}
+use Rattle.buf_pool.specs.Steps.{SameShown}
+use Rattle.snap_pages.specs.Owed.{with_pins_of}
+use Rattle.snap_pages.proofs.pinning.pin_each.Given as goal
+
+abbrev pub invariant-loop-rec : goal.invariant-loop-rec
+invariant-loop-rec g l = record {
+  pinned : pins l.pool ≡ with_pins_of (take l.rec-index l.recs) (pins l.fn.pool);
+  shown : SameShown l.fn.pool l.pool;
+}
