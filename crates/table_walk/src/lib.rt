@@ -23,9 +23,9 @@ pub use law::{
     addresses_are_read, plans_are_carried_on, plans_depend_on_owned_pages,
     plans_depend_on_the_claimed_pages, rows_are_one, rows_depend_on_owned_pages,
 };
-pub use layout::{Layout, Walked, walk, wants_of};
+pub use layout::{Layout, Walked, walk, walk_with, wants_of};
 pub use plan::{Edit, EditList, Plan, Spot};
 pub use refusal::SeenRefusal;
 pub use row_map::RowMap;
-pub use rows::{read_row, rows_of};
+pub use rows::{read_row, row_of, rows_of};
 pub use visit::{Visit, is_leaf};

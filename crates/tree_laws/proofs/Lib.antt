@@ -1,0 +1,5 @@
+pub mod Lists
+pub mod NodeLemmas
+pub mod LookUpLemmas
+pub mod WithinLemmas
+pub mod FindLemmas

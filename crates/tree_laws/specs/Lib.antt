@@ -1,0 +1,4 @@
+pub mod Keys
+pub mod Kids
+pub mod Order
+pub mod LookUps
