@@ -1,4 +1,5 @@
 pub mod Lists
+pub mod KeyOrder
 pub mod NodeLemmas
 pub mod LookUpLemmas
 pub mod WithinLemmas

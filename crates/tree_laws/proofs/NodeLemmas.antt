@@ -44,12 +44,6 @@ some_is level (Ok []) cs h = by (level == 1) h
 pub page_is : (cols : List Column) (t : Visit) (slots : List (List ℕ)) (ns : List Visit) → tree_kids cols None t slots ≡ Ok ns → IsLeaf cols t slots ns ⊎ IsNode cols t slots ns
 page_is cols t slots ns h = by (is_leaf t) refl h
   where
-    n : ℕ
-    n = level_of slots
-
-    see : Option Key → Result (List Visit) ℕ
-    see key = visits key t.page n (node (key_columns cols) t.level slots)
-
     by : (b : Bool) → is_leaf t ≡ b → cond b (Ok []) (visits None t.page (level_of slots) (node (key_columns cols) t.level slots)) ≡ Ok ns → IsLeaf cols t slots ns ⊎ IsNode cols t slots ns
     by true leaf e = inl (record {
       leaf = leaf;

@@ -1,6 +1,7 @@
 -- The pages of a look-up are pages of the walk over the whole tree, in its order.
 use Rattle.std.proofs.Common.{◌≡◌, ◌≢◌, ◌-◌, ◌<◌, ℕ, zero, suc, Bool, true, false, List, [], ◌∷◌, ◌++◌, length, get_or, refl, ap, sym, ◌∙◌, subst, arith, map, append_assoc, append-nil, Result, Ok, Err, IsOkAnd, Option, None, Some, ◌⊎◌, inl, inr}
 use Rattle.std.specs.List.{AllPairs, Any}
+use Rattle.std.proofs.lemmas.List.{get_or_default}
 use Rattle.page_base.specs.declared.column.Column.{Column}
 use Rattle.page_base.specs.declared.numbers.PageId.{PageId}
 use Rattle.page_fmt.specs.Seen.{SlotsAt, Looked, Shows, Saw, look}
@@ -30,7 +31,7 @@ among-behind [] xs ys s = s
 among-behind (z ∷ zs) [] ys s = tt
 among-behind (z ∷ zs) (x ∷ xs) ys s = inr (among-behind zs (x ∷ xs) ys s)
 
-among-each : (P : Visit → Type 0) (xs ys : List Visit) → AreAmong xs ys → ((k : ℕ) (d : Visit) → k < length ys → P (get_or ys k d)) → (k : ℕ) (d : Visit) → k < length xs → P (get_or xs k d)
+pub among-each : (P : Visit → Type 0) (xs ys : List Visit) → AreAmong xs ys → ((k : ℕ) (d : Visit) → k < length ys → P (get_or ys k d)) → (k : ℕ) (d : Visit) → k < length xs → P (get_or xs k d)
 among-each P [] ys s all k d lt = absurd (omega (arith, lt))
 among-each P (x ∷ xs) [] s all k d lt = absurd s
 among-each P (x ∷ xs) (y ∷ ys) (inl s) all zero d lt = subst P (sym s.0) (all 0 d (omega arith))
@@ -65,19 +66,9 @@ module _ (cols : List Column) (at : SlotsAt) (key : Key) where
   step_of : (t : Visit) (todo more : List Visit) → IsOkAnd (tree_kids cols None t (at t.page)) (λ next. Walks (tree_kids cols None) at (next ++ todo) more []) → IsStep t more
   step_of t todo more w = by (tree_kids cols None t (at t.page)) refl w
     where
-      chosen : (n : IsNode cols t (at t.page) []) → IsStep t more
-      chosen n = record { next = map (visit_of t.page (level_of (at t.page) - 1)) (wanted (Some key) n.cs); are = n.other (Some key); on = none n.cs n.are }
-        where
-          none : (cs : List Child) → [] ≡ map (visit_of t.page (level_of (at t.page) - 1)) cs → GoesOn (map (visit_of t.page (level_of (at t.page) - 1)) (wanted (Some key) cs)) more
-          none [] e = tt
-          none (c ∷ cs) e = absurd (no_cons _ _ (sym e))
-
       node : (ns : List Visit) → Walks (tree_kids cols None) at (ns ++ todo) more [] → IsNode cols t (at t.page) ns → IsStep t more
-      node ns w n = record { next = map vis (wanted (Some key) n.cs); are = n.other (Some key); on = some n.cs n.are }
+      node ns w n = record { next = map (visit_of t.page (level_of (at t.page) - 1)) (wanted (Some key) n.cs); are = n.other (Some key); on = some n.cs n.are }
         where
-          vis : Child → Visit
-          vis = visit_of t.page (level_of (at t.page) - 1)
-
           some : (cs : List Child) → ns ≡ map (visit_of t.page (level_of (at t.page) - 1)) cs → GoesOn (map (visit_of t.page (level_of (at t.page) - 1)) (wanted (Some key) cs)) more
           some [] e = tt
           some (c ∷ cs) e =
@@ -115,18 +106,27 @@ module _ (cols : List Column) (at : SlotsAt) (key : Key) where
       by (v ∷ []) w on rec = subst (AreAmong (done ++ rest)) (sym on.3) (among-behind on.0 (done ++ rest) on.1 (rec v on.2 on.1 on.4 w))
       by (v ∷ u ∷ us) w on rec = absurd on
 
-  -- a page of the whole walk names something for each key
-  pub names : (todo all : List Visit) (v : Visit) → Walks (tree_kids cols None) at todo all [] → Any (λ w. w ≡ v) all → IsStep v [] ⊎ ((more : List Visit) × IsStep v more)
+  -- what a page of the whole walk names for the key, if it is read
+  pub names : (todo all : List Visit) (v : Visit) → Walks (tree_kids cols None) at todo all [] → Any (λ w. w ≡ v) all → (more : List Visit) × IsStep v more
   names todo [] v a any = absurd (omega (arith, any.2))
   names [] (x ∷ all) v a any = absurd a
-  names (t ∷ todo) (x ∷ all) v a any = by any.0 any.2 any.3
+  names (t ∷ todo) (x ∷ all) v a any = by any.0 any.2 any.3 (λ next w rest. names (next ++ todo) all v w rest)
     where
-      go : (r : Result (List Visit) ℕ) → IsOkAnd r (λ next. Walks (tree_kids cols None) at (next ++ todo) all []) → ((next : List Visit) → Walks (tree_kids cols None) at (next ++ todo) all [] → IsStep v [] ⊎ ((more : List Visit) × IsStep v more)) → IsStep v [] ⊎ ((more : List Visit) × IsStep v more)
+      go : (r : Result (List Visit) ℕ) → IsOkAnd r (λ next. Walks (tree_kids cols None) at (next ++ todo) all []) → ((next : List Visit) → Walks (tree_kids cols None) at (next ++ todo) all [] → (more : List Visit) × IsStep v more) → (more : List Visit) × IsStep v more
       go (Ok next) w f = f next w
       go (Err e) w f = absurd w
 
-      by : (k : ℕ) → k < length (x ∷ all) → get_or (x ∷ all) k any.1 ≡ any.1 → IsStep v [] ⊎ ((more : List Visit) × IsStep v more)
-      by zero lt e =
+      by : (k : ℕ) → k < length (x ∷ all) → get_or (x ∷ all) k any.1 ≡ any.1 → ((next : List Visit) → Walks (tree_kids cols None) at (next ++ todo) all [] → Any (λ w. w ≡ v) all → (more : List Visit) × IsStep v more) → (more : List Visit) × IsStep v more
+      by zero lt e rec =
           let same : t ≡ v = a.0 ∙ e ∙ any.4 in
-          inr (all, subst (λ (z : Visit). IsStep z all) same (step_of t todo all a.1))
-      by (suc k) lt e = go (tree_kids cols None t (at t.page)) a.1 (λ next w. names (next ++ todo) all v w (k, any.1, omega (arith, lt), e, any.4))
+          (all, subst (λ (z : Visit). IsStep z all) same (step_of t todo all a.1))
+      by (suc k) lt e rec = go (tree_kids cols None t (at t.page)) a.1 (λ next w. rec next w (k, any.1, omega (arith, lt), e, any.4))
+
+module _ (cols : List Column) (at : SlotsAt) (owns : PageId → Bool) (root : PageId) (rows : Rows) (key : Key) where
+  pub stays : (done rest : List Visit) → RowsAt cols at owns root rows → IsWalk (tree_kids cols (Some key)) at (first root) done rest → (k : ℕ) (d : Visit) → k < length (done ++ rest) → owns (get_or (done ++ rest) k d).page ≡ true
+  stays done rest t w = among-each (λ (v : Visit). owns v.page ≡ true) (done ++ rest) t.0 (within cols at key (first root) [] t.0 done rest t.1.walk.walks w.walks)
+      (λ k d lt. (t.1.owned (get_or t.0 k d).page).1 (k, get_or t.0 k d, lt, get_or_default t.0 k (get_or t.0 k d) d lt, refl))
+
+  -- no page twice
+  pub stays_once : (done rest : List Visit) → RowsAt cols at owns root rows → Walks (tree_kids cols (Some key)) at (first root ∷ []) done rest → AllPairs (λ v w. v.page ≢ w.page) (done ++ rest)
+  stays_once done rest t w = among-pairs (λ v w. v.page ≢ w.page) (done ++ rest) t.0 (within cols at key (first root) [] t.0 done rest t.1.walk.walks w) t.1.walk.once

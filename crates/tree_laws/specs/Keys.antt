@@ -1,5 +1,5 @@
 -- A key as bytes: a row of the key's columns without the bytes that tell which are NULL, since none is.
-use Rattle.std.specs.Prelude.{◌==◌, ◌++◌, Option, None, Some, Result, Ok, Err, if◌then◌else◌, ℕ, min, List, [], ◌∷◌, length, replicate}
+use Rattle.std.specs.Prelude.{false, ◌==◌, ◌++◌, Option, None, Some, Result, Ok, Err, if◌then◌else◌, ℕ, min, List, [], ◌∷◌, length, replicate}
 use Rattle.std.specs.List.{range_with_len, flat_map}
 use Rattle.page_base.specs.declared.column.Column.{Column}
 use Rattle.page_base.specs.declared.value.Value.{Value}

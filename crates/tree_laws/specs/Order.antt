@@ -84,17 +84,14 @@ abbrev pub are_part : Option Key → List Child → Bool
 are_part least [] = true
 are_part least (c ∷ cs) = is_none_or least c.least && list_all has_least cs
 
-abbrev pub are_parted : List Column → SlotsAt → ℕ → Child → Bool
-are_parted cols at zero c = true
-are_parted cols at (suc n) c = are_part c.least (children_at cols (at c.page)) && list_all (are_parted cols at n) (children_at cols (at c.page))
+-- so it is inside a page of this level, which has this least key
+abbrev pub are_parted : List Column → SlotsAt → ℕ → Option Key → PageId → Bool
+are_parted cols at zero least p = true
+are_parted cols at (suc n) least p = are_part least (children_at cols (at p)) && list_all (λ c. are_parted cols at n c.least c.page) (children_at cols (at p))
 
--- the root as a child of none
-abbrev pub top : PageId → Child
-top root = record { least = None; page = root; slot = 0 }
-
--- whether the pages from a root on stand in order
+-- whether the pages from a root on stand in order; the root has no least key
 abbrev pub in_order : List Column → SlotsAt → PageId → Bool
-in_order cols at root = ascend (inside cols at (level_of (at root)) root) && are_parted cols at (level_of (at root)) (top root)
+in_order cols at root = ascend (inside cols at (level_of (at root)) root) && are_parted cols at (level_of (at root)) None root
 
 -- the layout: what a page of a tree names, and that its pages stand in order
 abbrev pub tree_shape : List Column → Shape
