@@ -18,7 +18,7 @@ pub use addresses::{address, names_none, page_at};
 pub use differences::add_differences;
 pub use find::{Find, Wants};
 pub use index::{page_index, place};
-pub use key::{copy_row, key_of};
+pub use key::{copy_row, key_of, key_size};
 pub use law::{
     addresses_are_read, plans_are_carried_on, plans_depend_on_owned_pages,
     plans_depend_on_the_claimed_pages, rows_are_one, rows_depend_on_owned_pages,

@@ -4,3 +4,4 @@ pub mod NodeLemmas
 pub mod LookUpLemmas
 pub mod WithinLemmas
 pub mod FindLemmas
+pub mod SeenLemmas

@@ -38,6 +38,14 @@ among-each P (x ∷ xs) (y ∷ ys) (inl s) all zero d lt = subst P (sym s.0) (al
 among-each P (x ∷ xs) (y ∷ ys) (inl s) all (suc k) d lt = among-each P xs ys s.1 (λ j e h. all (suc j) e (omega (arith, h))) k d (omega (arith, lt))
 among-each P (x ∷ xs) (y ∷ ys) (inr s) all k d lt = among-each P (x ∷ xs) ys s (λ j e h. all (suc j) e (omega (arith, h))) k d lt
 
+-- each of these is one of the others
+pub among-there : (xs ys : List Visit) → AreAmong xs ys → (k : ℕ) (d : Visit) → k < length xs → Any (λ w. w ≡ get_or xs k d) ys
+among-there [] ys s k d lt = absurd (omega (arith, lt))
+among-there (x ∷ xs) [] s k d lt = absurd s
+among-there (x ∷ xs) (y ∷ ys) (inl s) zero d lt = (0, y, omega arith, refl, sym s.0)
+among-there (x ∷ xs) (y ∷ ys) (inl s) (suc k) d lt = let a = among-there xs ys s.1 k d (omega (arith, lt)) in (suc a.0, a.1, omega (arith, a.2), a.3, a.4)
+among-there (x ∷ xs) (y ∷ ys) (inr s) k d lt = let a = among-there (x ∷ xs) ys s k d lt in (suc a.0, a.1, omega (arith, a.2), a.3, a.4)
+
 -- what holds of each two of the others holds of these
 among-pairs : (R : Visit → Visit → Type 0) (xs ys : List Visit) → AreAmong xs ys → AllPairs R ys → AllPairs R xs
 among-pairs R [] ys s all i j d a b = absurd (omega (arith, b))

@@ -1,0 +1,13 @@
+//! A table in a tree of pages by key: what is to be read of it, and its rows.
+#![tactic(auto)]
+
+mod chosen;
+mod entries;
+mod keys;
+mod layout;
+mod reading;
+mod root;
+mod sorting;
+
+pub use reading::{rows, wants};
+pub use root::new_root;
