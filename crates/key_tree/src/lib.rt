@@ -8,6 +8,8 @@ mod layout;
 mod reading;
 mod root;
 mod sorting;
+#[cfg(test)]
+mod tests;
 
 pub use reading::{rows, wants};
 pub use root::new_root;

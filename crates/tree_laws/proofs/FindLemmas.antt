@@ -268,7 +268,7 @@ module _ (cols : List Column) (at : SlotsAt) where
         (e.1, λ ne. e.0)
 
     module _ (n : ℕ) (least : Option Key) (v : Visit) (all path : List Visit) (b : IsBegun Whole at v all) (c : IsBegun (tree_kids cols (Some key)) at v path) (m : Names n v b.next)
-      (a : Ascend (inside cols at (suc n) v.page)) (p : are_parted cols at (suc n) least v.page ≡ true) (rec : Finds n) where
+        (a : Ascend (inside cols at (suc n) v.page)) (p : are_parted cols at (suc n) least v.page ≡ true) (rec : Finds n) where
       only_all : cells at all ≡ cells at b.more
       only_all = ap (cells at) b.are ∙ ap (λ (l : List (List ℕ)). l ++ cells at b.more) (other_cells at v m.inner)
 
