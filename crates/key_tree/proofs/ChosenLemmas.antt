@@ -21,10 +21,12 @@ two cs at d h = drop_at cs at d (omega (arith, h)) ∙ ap (λ (l : List Child). 
 pub chosen_more : (key : Key) (cs : List Child) (at : ℕ) (d : Child) → ChosenSoFar key cs at → at + 1 < length cs → may_hold key (get_or cs (at + 1) d) ≡ true → ChosenSoFar key cs (at + 1)
 chosen_more key cs at d s h held =
     let c : Child = get_or cs at d in
-    let e : Child = get_or cs (at + 1) d in
-    (h, ap (wanted (Some key)) (drop_at cs (at + 1) d h)
-    ∙ sym (ap (λ (b : Bool). cond b (chosen_from key (get_or cs (at + 1) d) (drop (at + 1 + 1) cs)) (get_or cs at d) ∷ []) held)
-    ∙ sym (ap (wanted (Some key)) (two cs at d h)) ∙ s.1)
+    let e : Child = get_or cs (at + 1) d in (
+      h,
+      ap (wanted (Some key)) (drop_at cs (at + 1) d h)
+          ∙ sym (ap (λ (b : Bool). cond b (chosen_from key (get_or cs (at + 1) d) (drop (at + 1 + 1) cs)) (get_or cs at d) ∷ []) held)
+          ∙ sym (ap (wanted (Some key)) (two cs at d h)) ∙ s.1,
+    )
 
 pub chosen_last : (key : Key) (cs : List Child) (at : ℕ) (d : Child) → ChosenSoFar key cs at → length cs ≤ at + 1 → get_or cs at d ∷ [] ≡ wanted (Some key) cs
 chosen_last key cs at d s h =

@@ -33,12 +33,15 @@ new_order cols at root e =
     ∙ ap (λ (s : List (List ℕ)). ascend (flat_map (marks_of (inside cols at 0)) (headless (children_at cols s))) && (are_part None (children_at cols s) && list_all (λ c. are_parted cols at 0 c.least c.page) (children_at cols s))) e
 
 pub new_table : (cols : List Column) (at : SlotsAt) (owns : PageId → Bool) (root : PageId) → at root ≡ New → ((p : PageId) → (owns p ≡ true) ↔ (p ≡ root)) → RowsAt cols at owns root finite.empty
-new_table cols at owns root e own =
-    (first root ∷ [], record {
-      walk = record { walks = (refl, ok_is (λ (next : List Visit). next ++ [] ≡ []) (tree_kids cols None (first root) (at root)) [] (ap (tree_kids cols None (first root)) e ∙ new_kids cols root) refl); once = λ i j d a b. absurd (omega (arith, a, b)) };
-      owned = λ p. ((λ o. (0, first root, omega arith, refl, sym ((own p).0 o))), (λ r. (own p).1 (to_root p r)));
-      gathers = refl;
-    }, new_order cols (look (shown at (first root ∷ []))) root (ap (λ (b : Bool). cond b (at root) []) (is_page-same root) ∙ e))
+new_table cols at owns root e own = (
+  first root ∷ [],
+  record {
+    walk = record { walks = (refl, ok_is (λ (next : List Visit). next ++ [] ≡ []) (tree_kids cols None (first root) (at root)) [] (ap (tree_kids cols None (first root)) e ∙ new_kids cols root) refl); once = λ i j d a b. absurd (omega (arith, a, b)) };
+    owned = λ p. ((λ o. (0, first root, omega arith, refl, sym ((own p).0 o))), (λ r. (own p).1 (to_root p r)));
+    gathers = refl;
+  },
+  new_order cols (look (shown at (first root ∷ []))) root (ap (λ (b : Bool). cond b (at root) []) (is_page-same root) ∙ e),
+)
   where
     at_first : (k : ℕ) (d : Visit) → k < length (first root ∷ []) → get_or (first root ∷ []) k d ≡ first root
     at_first zero d lt = refl

@@ -111,7 +111,12 @@ impl Tree {
     {
         let children = node(alloc, &self.keys, visit, seen, i)?;
         let level = level_of(seen, i) - 1;
-        Ok(visits_of(alloc, visit.page, level, wanted(&self.key, children.as_slice()))?)
+        Ok(visits_of(
+            alloc,
+            visit.page,
+            level,
+            wanted(&self.key, children.as_slice()),
+        )?)
     }
 }
 

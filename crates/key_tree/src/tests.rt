@@ -81,12 +81,7 @@ fn next_page(
 }
 
 // How many rows are asked for, where all pages for them were read.
-fn count(
-    alloc: Global,
-    cols: &Columns,
-    find: &Find,
-    seen: &Seen,
-) -> Result<usize, SeenRefusal> {
+fn count(alloc: Global, cols: &Columns, find: &Find, seen: &Seen) -> Result<usize, SeenRefusal> {
     match wants(alloc, ROOT, cols, find, seen)? {
         Wants::Page { page, rows: _ } => Err(SeenRefusal::Damaged { page, slot: 0 }),
         Wants::Done => Ok(rows(alloc, ROOT, cols, find, seen)?.len()),
@@ -103,7 +98,10 @@ fn a_small_tree_is_read(rt: HostRuntime) -> Result<(), Fail> {
     assert_eq!(rt; next_page(alloc, &cols, &high, &seen)?, Some((ROOT, false)));
     seen.add(alloc, ROOT, &page(alloc, &ROOT_SLOTS)?)?;
     assert_eq!(rt; next_page(alloc, &cols, &high, &seen)?, Some((HIGH, true)));
-    assert_eq!(rt; next_page(alloc, &cols, &Find::All, &seen)?, Some((LOW, true)));
+    assert_eq!(rt;
+        next_page(alloc, &cols, &Find::All, &seen)?,
+        Some((LOW, true))
+    );
     seen.add(alloc, HIGH, &page(alloc, &HIGH_SLOTS)?)?;
     assert_eq!(rt; count(alloc, &cols, &high, &seen)?, 1);
     assert_eq!(rt; next_page(alloc, &cols, &both, &seen)?, Some((LOW, true)));

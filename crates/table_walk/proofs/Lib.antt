@@ -11,3 +11,4 @@ pub mod AddressLemmas
 pub mod IndexLemmas
 pub mod EditLemmas
 pub mod ClaimLemmas
+pub mod LeafLemmas

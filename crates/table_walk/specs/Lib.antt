@@ -6,3 +6,4 @@ pub mod Sought
 pub mod Plans
 pub mod Index
 pub mod Differences
+pub mod Leaves

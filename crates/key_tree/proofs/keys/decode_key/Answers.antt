@@ -17,14 +17,14 @@ pub returns-in-Ok : goal.returns-in-Ok
 returns-in-Ok c =
     let n : c.div_ceil.result ≡ null_bytes (length c.args.keys.now) = omega (arith, c.div_ceil.ensures, c.len.ensures) in
     let is = bytes_are (length c.args.keys.now) c.in_ok-row.row.items c.args.bytes.now c.extend_from_slice.new.self.items c.as_slice.result.now c.len.result c.div_ceil.result
-        (c.in_ok-row.ensures.items_if_clones_equal (λ y e. e)) n c.in_ok-extend_from_slice.ensures.items c.as_slice.ensures.value in
+    (c.in_ok-row.ensures.items_if_clones_equal (λ y e. e)) n c.in_ok-extend_from_slice.ensures.items c.as_slice.ensures.value in
     key_read c.args.keys.now c.args.bytes.now c.as_slice.result.now c.in-Ok.key is c.in-Ok.ensures.row
 
 pub returns-in-Err-Form : goal.returns-in-Err-Form
 returns-in-Err-Form c =
     let n : c.div_ceil.result ≡ null_bytes (length c.args.keys.now) = omega (arith, c.div_ceil.ensures, c.len.ensures) in
     let is = bytes_are (length c.args.keys.now) c.in_ok-row.row.items c.args.bytes.now c.extend_from_slice.new.self.items c.as_slice.result.now c.len.result c.div_ceil.result
-        (c.in_ok-row.ensures.items_if_clones_equal (λ y e. e)) n c.in_ok-extend_from_slice.ensures.items c.as_slice.ensures.value in
+    (c.in_ok-row.ensures.items_if_clones_equal (λ y e. e)) n c.in_ok-extend_from_slice.ensures.items c.as_slice.ensures.value in
     let h : IsBytes c.args.bytes.now = λ i. omega (arith, c.type_inv.bytes i) in
     key_none c.args.keys.now c.args.bytes.now c.as_slice.result.now is (subst IsBytes (sym is) (zeros_front (null_bytes (length c.args.keys.now)) c.args.bytes.now h))
     (λ key r. subst (λ (e : RowRefusal). GivesRow key (Err e)) c.in-Err-Form.field-0-is (c.in-Err-Form.ensures.only key r))

@@ -34,8 +34,8 @@ returns-in_ok-keys-in-All-clause-rows c = λ at owns all t shows.
     let kids : kids_by c.whole.result.keys c.whole.result.key ≡ tree_kids c.args.cols.now None = kids_all c.args.cols.now c.in_ok-keys-in-All.keys c.whole.result c.whole.ensures (c.in_ok-keys-in-All.ensures.columns ∙ ap key_columns c.as_slice.ensures) in
     let read : IsDone (tree_kids c.args.cols.now None) c.args.seen.now (first c.args.root) = subst (IsRead c.args.cols.now c.args.seen.now c.args.root) c.in-All.is c.requires in
     if_ok c.rows_of-in-All.result (λ r is.
-      on_tree c.args.cols.now None c.args.root (kids_by c.whole.result.keys c.whole.result.key) c.first.result (λ k s. (done : List Visit) (all : Rows) → IsSeenWalk k c.args.seen.now s done [] → Gathers c.args.cols.now (cells (look c.args.seen.now) done) all → r ≡ finite.values (asked c.args.find.now all)) kids c.first.ensures is
-      read.0 all read.1 (table_gathers (tree_shape c.args.cols.now) c.args.cols.now at owns (first c.args.root) all c.args.seen.now t read.0 shows read.1)) c.rows_of-in-All.ensures.rows
+    on_tree c.args.cols.now None c.args.root (kids_by c.whole.result.keys c.whole.result.key) c.first.result (λ k s. (done : List Visit) (all : Rows) → IsSeenWalk k c.args.seen.now s done [] → Gathers c.args.cols.now (cells (look c.args.seen.now) done) all → r ≡ finite.values (asked c.args.find.now all)) kids c.first.ensures is
+    read.0 all read.1 (table_gathers (tree_shape c.args.cols.now) c.args.cols.now at owns (first c.args.root) all c.args.seen.now t read.0 shows read.1)) c.rows_of-in-All.ensures.rows
 
 pub returns-in_ok-keys-in-All-clause-whole : goal.returns-in_ok-keys-in-All-clause-whole
 returns-in_ok-keys-in-All-clause-whole c = λ at owns all t shows.

@@ -26,28 +26,28 @@ loop-key-init c = record {
 pub row_of-requires-clause-done : goal.row_of-requires-clause-done
 row_of-requires-clause-done c =
     let kids : kids_by c.look_for.new.self.keys c.look_for.new.self.key ≡ tree_kids c.args.cols.now (Some c.key-item.result) =
-        kids_now c.args.cols.now c.look_for.new.self c.loop-key.tree c.key-item.result c.in_ok-copy_row.field-0 c.look_for.ensures c.loop-key.invariant.keys c.in_ok-copy_row.ensures in
+    kids_now c.args.cols.now c.look_for.new.self c.loop-key.tree c.key-item.result c.in_ok-copy_row.field-0 c.look_for.ensures c.loop-key.invariant.keys c.in_ok-copy_row.ensures in
     from_tree c.args.cols.now (Some c.key-item.result) c.args.root (kids_by c.look_for.new.self.keys c.look_for.new.self.key) c.first.result (λ k s. IsDone k c.args.seen.now s) kids c.first.ensures
     (item_looked c.args.cols.now c.args.seen.now c.args.root c.args.keys.now c.loop-key.key-index c.key-item.result c.requires c.loop-key-test.true c.key-item.is)
 
 pub returns-in_err-row-clause-bad : goal.returns-in_err-row-clause-bad
 returns-in_err-row-clause-bad c =
     let kids : kids_by c.look_for.new.self.keys c.look_for.new.self.key ≡ tree_kids c.args.cols.now (Some c.key-item.result) =
-        kids_now c.args.cols.now c.look_for.new.self c.loop-key.tree c.key-item.result c.in_ok-copy_row.field-0 c.look_for.ensures c.loop-key.invariant.keys c.in_ok-copy_row.ensures in
+    kids_now c.args.cols.now c.look_for.new.self c.loop-key.tree c.key-item.result c.in_ok-copy_row.field-0 c.look_for.ensures c.loop-key.invariant.keys c.in_ok-copy_row.ensures in
     handed_on (IsAt (IsNoRowFor c.args.cols.now c.args.seen.now c.args.root (Keys c.args.keys.now))) c.from_residual-in_err-row.result c.in_err-row.field-0.0 c.from_residual-in_err-row.ensures.1
     (no_row_for c.args.cols.now c.args.seen.now c.args.root c.args.keys.now c.loop-key.key-index c.key-item.result c.loop-key-test.true c.key-item.is c.in_err-row.field-0.0
-      (on_tree c.args.cols.now (Some c.key-item.result) c.args.root (kids_by c.look_for.new.self.keys c.look_for.new.self.key) c.first.result (λ k s. IsAt (IsBadRow k c.args.cols.now c.args.seen.now s) c.in_err-row.field-0.0) kids c.first.ensures c.in_err-row.ensures.bad))
+    (on_tree c.args.cols.now (Some c.key-item.result) c.args.root (kids_by c.look_for.new.self.keys c.look_for.new.self.key) c.first.result (λ k s. IsAt (IsBadRow k c.args.cols.now c.args.seen.now s) c.in_err-row.field-0.0) kids c.first.ensures c.in_err-row.ensures.bad))
 
 pub loop-key-preserved : goal.loop-key-preserved
 loop-key-preserved c =
     let kids : kids_by c.look_for.new.self.keys c.look_for.new.self.key ≡ tree_kids c.args.cols.now (Some c.key-item.result) =
-        kids_now c.args.cols.now c.look_for.new.self c.loop-key.tree c.key-item.result c.in_ok-copy_row.field-0 c.look_for.ensures c.loop-key.invariant.keys c.in_ok-copy_row.ensures in
+    kids_now c.args.cols.now c.look_for.new.self c.loop-key.tree c.key-item.result c.in_ok-copy_row.field-0 c.look_for.ensures c.loop-key.invariant.keys c.in_ok-copy_row.ensures in
     let looked : IsLookedUp c.args.cols.now c.args.seen.now c.args.root c.key-item.result =
-        item_looked c.args.cols.now c.args.seen.now c.args.root c.args.keys.now c.loop-key.key-index c.key-item.result c.requires c.loop-key-test.true c.key-item.is in
+    item_looked c.args.cols.now c.args.seen.now c.args.root c.args.keys.now c.loop-key.key-index c.key-item.result c.requires c.loop-key-test.true c.key-item.is in
     let row = on_tree c.args.cols.now (Some c.key-item.result) c.args.root (kids_by c.look_for.new.self.keys c.look_for.new.self.key) c.first.result
-        (λ k s. (done : List Visit) (all : Rows) → IsSeenWalk k c.args.seen.now s done [] → Gathers c.args.cols.now (cells (look c.args.seen.now) done) all → c.in_ok-row.field-0 ≡ finite.get all c.key-item.result) kids c.first.ensures c.in_ok-row.ensures.row in
+    (λ k s. (done : List Visit) (all : Rows) → IsSeenWalk k c.args.seen.now s done [] → Gathers c.args.cols.now (cells (look c.args.seen.now) done) all → c.in_ok-row.field-0 ≡ finite.get all c.key-item.result) kids c.first.ensures c.in_ok-row.ensures.row in
     let are = on_tree c.args.cols.now (Some c.key-item.result) c.args.root (kids_by c.look_for.new.self.keys c.look_for.new.self.key) c.first.result
-        (λ k s. (done : List Visit) → IsSeenWalk k c.args.seen.now s done [] → AreRows c.args.cols.now (cells (look c.args.seen.now) done)) kids c.first.ensures c.in_ok-row.ensures.are in
+    (λ k s. (done : List Visit) → IsSeenWalk k c.args.seen.now s done [] → AreRows c.args.cols.now (cells (look c.args.seen.now) done)) kids c.first.ensures c.in_ok-row.ensures.are in
     record {
       keys = keys_now c.args.cols.now c.look_for.new.self c.loop-key.tree c.in_ok-copy_row.field-0 c.look_for.ensures c.loop-key.invariant.keys;
       found = elim c.match-branch-5.branch [
