@@ -5,3 +5,5 @@ pub mod LookUpLemmas
 pub mod WithinLemmas
 pub mod FindLemmas
 pub mod SeenLemmas
+pub mod PartLemmas
+pub mod EntryOrder
