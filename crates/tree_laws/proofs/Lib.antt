@@ -7,3 +7,8 @@ pub mod FindLemmas
 pub mod SeenLemmas
 pub mod PartLemmas
 pub mod EntryOrder
+pub mod Times
+pub mod MarkLemmas
+pub mod HandOut
+pub mod LeafOrder
+pub mod LeafRows
