@@ -12,3 +12,6 @@ pub mod MarkLemmas
 pub mod HandOut
 pub mod LeafOrder
 pub mod LeafRows
+pub mod Sound
+pub mod PartsFull
+pub mod LeafStep

@@ -1,0 +1,252 @@
+-- A row is put into a leaf: it has room, or the leaf's rows are laid on it and on new pages.
+use Rattle.std.proofs.Common.{◌≡◌, ◌≢◌, ◌≤◌, ◌<◌, ◌+◌, ◌-◌, ◌*◌, ◌||◌, ℕ, zero, suc, Bool, true, false, cond, List, [], ◌∷◌, ◌++◌, length, map, refl, ap, sym, ◌∙◌, subst, arith, append_assoc, append-nil, ◌⊎◌, inl, inr}
+use Rattle.std.specs.Prelude.{Option, None, Some, nat_le}
+use Rattle.std.specs.List.{flat_map}
+use Rattle.std.specs.FinMap as finite
+use Rattle.std.specs.Ordering.{is_le}
+use Rattle.std.proofs.lemmas.Bool.{leb-true}
+use Rattle.page_base.specs.declared.column.Column.{Column}
+use Rattle.page_base.specs.declared.numbers.PageId.{PageId}
+use Rattle.page_base.specs.declared.value.Value.{Value}
+use Rattle.page_base.specs.Order.{key_cmp}
+use Rattle.page_base.specs.Pages.{set_at}
+use Rattle.page_fmt.specs.Spelling.{used, row_bytes as bytes_in, FitsPage, LastIsFull}
+use Rattle.plain_model.specs.Tables.{Rows as Map, key_of}
+use Rattle.row_fmt.specs.Rows.{row_bytes}
+use Rattle.table_walk.specs.Leaves.{Leaf, cell, rows_in, ByKeys, has, holds, changed, added}
+use Rattle.table_walk.proofs.LeafLemmas.{is_there}
+use Rattle.tree_laws.specs.Keys.{Key}
+use Rattle.tree_laws.specs.Order.{Mark, own}
+use Rattle.tree_laws.specs.Order.Mark.{Least, Row}
+use Rattle.tree_laws.specs.Parts.{fill, joined, total, AreSmall, Fit}
+use Rattle.tree_laws.specs.Puts.{placed_row, rows_in_order, row_size, leaf_of_rows, first_key, with_row, with_sheet, hand_out, lay, to_leaf, put_below}
+use Rattle.tree_laws.specs.Sheets.{Entry, Sheet, Stand, Grown, slots_in, fits, leaf_in}
+use Rattle.tree_laws.specs.Sheets.Sheet.{Rows, Inner}
+use Rattle.tree_laws.specs.Trees.{row_mark, marks_of, inside, rows_of, pages_of}
+use Rattle.tree_laws.proofs.HandOut.{claimed_from, AreMade, IsHanded, handed}
+use Rattle.tree_laws.proofs.KeyOrder.{Below as KeyBelow, upto_of}
+use Rattle.tree_laws.proofs.LeafOrder.{leaf_order}
+use Rattle.tree_laws.proofs.LeafRows.{to_sorted, from_sorted, with_row_by_keys}
+use Rattle.tree_laws.proofs.Lists.{Each, Precedes, Ascend, each-left, each-right, each-append, each-map, ascend-left, ascend-right, flat-append}
+use Rattle.tree_laws.proofs.MarkLemmas.{ascend-part}
+use Rattle.tree_laws.proofs.PartLemmas.{joined-fill, fit-fill, fit-whole}
+use Rattle.tree_laws.proofs.PartsFull.{all_full, some_part}
+use Rattle.tree_laws.proofs.Sound.{AreRules, HasLeast, IsEntry, LeastIs, IsLeaf, IsSound, IsFree, IsGrown}
+use Rattle.tree_laws.proofs.Times.{times, times-append, times_here, times_first, set_same, set_other, Below}
+
+abbrev Rs : Type 0
+Rs = List (List Value)
+
+-- ROWS THAT MAY STAND
+
+slot_each : (P : List Value → Type 0) (c : Option (List Value)) (cs : Leaf) → Each P (rows_in (c ∷ cs)) → Each P (rows_in cs)
+slot_each P None cs h = h
+slot_each P (Some r) cs h = h.1
+
+changed_each : (P : List Value → Type 0) (cols : List Column) (k : Key) (row : List Value) (leaf : Leaf) → P row → Each P (rows_in leaf) → Each P (rows_in (changed cols k (Some row) leaf))
+changed_each P cols k row [] p h = tt
+changed_each P cols k row (None ∷ cs) p h = changed_each P cols k row cs p h
+changed_each P cols k row (Some r ∷ cs) p h = by (has cols k (Some r)) (changed_each P cols k row cs p h.1)
+  where
+    by : (b : Bool) → Each P (rows_in (changed cols k (Some row) cs)) → Each P (rows_in (cond b (Some row) (Some r) ∷ changed cols k (Some row) cs))
+    by true rest = (p, rest)
+    by false rest = (h.0, rest)
+
+added_each : (P : List Value → Type 0) (row : List Value) (leaf : Leaf) → P row → Each P (rows_in leaf) → Each P (rows_in (added row leaf))
+added_each P row [] p h = (p, tt)
+added_each P row (None ∷ cs) p h = (p, h)
+added_each P row (Some r ∷ cs) p h = (h.0, added_each P row cs p h.1)
+
+with_row_each : (P : List Value → Type 0) (cols : List Column) (row : List Value) (leaf : Leaf) → P row → Each P (rows_in leaf) → Each P (rows_in (with_row cols row leaf))
+with_row_each P cols row leaf p h = by (holds cols (key_of cols row) leaf)
+  where
+    by : (b : Bool) → Each P (rows_in (cond b (changed cols (key_of cols row) (Some row) leaf) (added row leaf)))
+    by true = changed_each P cols (key_of cols row) row leaf p h
+    by false = added_each P row leaf p h
+
+placed_each : (P : List Value → Type 0) (cols : List Column) (r : List Value) (rs : Rs) → P r → Each P rs → Each P (placed_row cols r rs)
+placed_each P cols r [] p h = (p, tt)
+placed_each P cols r (q ∷ rs) p h = by (is_le (key_cmp (key_of cols r) (key_of cols q))) (placed_each P cols r rs p h.1)
+  where
+    by : (b : Bool) → Each P (placed_row cols r rs) → Each P (cond b (r ∷ q ∷ rs) (q ∷ placed_row cols r rs))
+    by true rec = (p, h)
+    by false rec = (h.0, rec)
+
+order_each : (P : List Value → Type 0) (cols : List Column) (leaf : Leaf) → Each P (rows_in leaf) → Each P (rows_in_order cols leaf)
+order_each P cols [] h = tt
+order_each P cols (None ∷ cs) h = order_each P cols cs h
+order_each P cols (Some r ∷ cs) h = placed_each P cols r (rows_in_order cols cs) h.0 (order_each P cols cs h.1)
+
+rows_in-some : (rs : Rs) → rows_in (map Some rs) ≡ rs
+rows_in-some [] = refl
+rows_in-some (r ∷ rs) = ap (λ (l : Rs). r ∷ l) (rows_in-some rs)
+
+-- LAST SLOTS
+
+full_cons : (x : List ℕ) (ys : List (List ℕ)) → x ≢ [] → LastIsFull ys → LastIsFull (x ∷ ys)
+full_cons x [] h l = h
+full_cons x (y ∷ ys) h l = l
+
+last_changed : (cols : List Column) (k : Key) (row : List Value) (leaf : Leaf) → row_bytes row ≢ [] → LastIsFull (map cell leaf) → LastIsFull (map cell (changed cols k (Some row) leaf))
+last_changed cols k row [] h l = tt
+last_changed cols k row (c ∷ []) h l = by (has cols k c)
+  where
+    by : (b : Bool) → cell (cond b (Some row) c) ≢ []
+    by true = h
+    by false = l
+last_changed cols k row (c ∷ d ∷ ds) h l = last_changed cols k row (d ∷ ds) h l
+
+last_added : (row : List Value) (leaf : Leaf) → row_bytes row ≢ [] → Each (λ r. row_bytes r ≢ []) (rows_in leaf) → LastIsFull (map cell leaf) → LastIsFull (map cell (added row leaf))
+last_added row [] h e l = h
+last_added row (None ∷ []) h e l = h
+last_added row (None ∷ d ∷ ds) h e l = l
+last_added row (Some r ∷ cs) h e l = full_cons (row_bytes r) (map cell (added row cs)) e.0 (last_added row cs h e.1 (tail cs l))
+  where
+    tail : (cs : Leaf) → LastIsFull (row_bytes r ∷ map cell cs) → LastIsFull (map cell cs)
+    tail [] l = tt
+    tail (d ∷ ds) l = l
+
+last_with : (cols : List Column) (row : List Value) (leaf : Leaf) → row_bytes row ≢ [] → Each (λ r. row_bytes r ≢ []) (rows_in leaf) → LastIsFull (map cell leaf) → LastIsFull (map cell (with_row cols row leaf))
+last_with cols row leaf h e l = by (holds cols (key_of cols row) leaf)
+  where
+    by : (b : Bool) → LastIsFull (map cell (cond b (changed cols (key_of cols row) (Some row) leaf) (added row leaf)))
+    by true = last_changed cols (key_of cols row) row leaf h l
+    by false = last_added row leaf h e l
+
+last_rows : (rs : Rs) → Each (λ r. row_bytes r ≢ []) rs → LastIsFull (map cell (map Some rs))
+last_rows [] e = tt
+last_rows (r ∷ rs) e = full_cons (row_bytes r) (map cell (map Some rs)) e.0 (last_rows rs e.1)
+
+-- SIZES
+
+used_rows : (rs : Rs) → bytes_in (map cell (map Some rs)) + 2 * length (map cell (map Some rs)) ≡ total row_size rs
+used_rows [] = omega arith
+used_rows (r ∷ rs) = omega (arith, used_rows rs)
+
+small_rows : (rs : Rs) → Each (λ r. row_size r ≤ 8096) rs → AreSmall row_size 8096 rs
+small_rows [] e = tt
+small_rows (r ∷ rs) e = (e.0, small_rows rs e.1)
+
+fits_rows : (rs : Rs) → total row_size rs ≤ 8096 → Each (λ r. row_bytes r ≢ []) rs → FitsPage (slots_in (leaf_of_rows rs))
+fits_rows rs h e = record { small = omega (arith, used_rows rs, h); last = last_rows rs e }
+
+-- ROWS THAT RISE
+
+abbrev RowsRise : List Column → Rs → Type 0
+RowsRise cols [] = Unit {0}
+RowsRise cols (r ∷ rs) = Each (λ q. KeyBelow (key_of cols r) (key_of cols q)) rs × RowsRise cols rs
+
+rise_one : (cols : List Column) (k : Key) (rs : Rs) → Each (Precedes (Row k)) (map (row_mark cols) rs) → Each (λ q. KeyBelow k (key_of cols q)) rs
+rise_one cols k [] e = tt
+rise_one cols k (r ∷ rs) e = (e.0, rise_one cols k rs e.1)
+
+rise_of : (cols : List Column) (rs : Rs) → Ascend (map (row_mark cols) rs) → RowsRise cols rs
+rise_of cols [] a = tt
+rise_of cols (r ∷ rs) a = (rise_one cols (key_of cols r) rs a.0, rise_of cols rs a.1)
+
+rise-left : (cols : List Column) (xs ys : Rs) → RowsRise cols (xs ++ ys) → RowsRise cols xs
+rise-left cols [] ys r = tt
+rise-left cols (x ∷ xs) ys r = (each-left (λ q. KeyBelow (key_of cols x) (key_of cols q)) xs ys r.0, rise-left cols xs ys r.1)
+
+rise-right : (cols : List Column) (xs ys : Rs) → RowsRise cols (xs ++ ys) → RowsRise cols ys
+rise-right cols [] ys r = r
+rise-right cols (x ∷ xs) ys r = rise-right cols xs ys r.1
+
+risen_rows : (cols : List Column) (rs : Rs) → RowsRise cols rs → rows_in_order cols (map Some rs) ≡ rs
+risen_rows cols [] h = refl
+risen_rows cols (r ∷ rs) h = ap (placed_row cols r) (risen_rows cols rs h.1) ∙ first rs h.0
+  where
+    first : (rs : Rs) → Each (λ q. KeyBelow (key_of cols r) (key_of cols q)) rs → placed_row cols r rs ≡ r ∷ rs
+    first [] e = refl
+    first (q ∷ rs) e = ap (λ (b : Bool). cond b (r ∷ q ∷ rs) (q ∷ placed_row cols r rs)) (upto_of (key_of cols r) (key_of cols q) e.0)
+
+abbrev PartsRise : List Column → List Rs → Type 0
+PartsRise cols ps = Each (RowsRise cols) ps
+
+parts_rise : (cols : List Column) (ps : List Rs) → RowsRise cols (joined ps) → PartsRise cols ps
+parts_rise cols [] h = tt
+parts_rise cols (p ∷ ps) h = (rise-left cols p (joined ps) h, parts_rise cols ps (rise-right cols p (joined ps) h))
+
+parts_each : (P : List Value → Type 0) (ps : List Rs) → Each P (joined ps) → Each (Each P) ps
+parts_each P [] h = tt
+parts_each P (p ∷ ps) h = (each-left P p (joined ps) h, parts_each P ps (each-right P p (joined ps) h))
+
+parts_fit : (ps : List Rs) → Fit row_size 8096 ps → Each (λ p. total row_size p ≤ 8096) ps
+parts_fit [] f = tt
+parts_fit (p ∷ ps) f = (f.0, parts_fit ps f.1)
+
+-- MARKS OF PARTS
+
+abbrev part_marks : List Column → Rs → List Mark
+part_marks cols part = own (first_key cols part) ++ map (row_mark cols) part
+
+-- the last of some rows
+record EndsIn (cols : List Column) (rs : Rs) : Type 0 where
+  front : List Mark
+  key : Key
+  are : map (row_mark cols) rs ≡ front ++ Row key ∷ []
+
+ends_in : (cols : List Column) (r : List Value) (rs : Rs) → EndsIn cols (r ∷ rs)
+ends_in cols r [] = record { front = []; key = key_of cols r; are = refl }
+ends_in cols r (q ∷ rs) = let e : EndsIn cols (q ∷ rs) = ends_in cols q rs in record { front = Row (key_of cols r) ∷ e.front; key = e.key; are = ap (λ (l : List Mark). Row (key_of cols r) ∷ l) e.are }
+
+map-marks : (cols : List Column) (xs ys : Rs) → map (row_mark cols) (xs ++ ys) ≡ map (row_mark cols) xs ++ map (row_mark cols) ys
+map-marks cols [] ys = refl
+map-marks cols (x ∷ xs) ys = ap (λ (l : List Mark). row_mark cols x ∷ l) (map-marks cols xs ys)
+
+-- each part that begins behind a row gets a least key in front
+spread : (cols : List Column) (xs : List Mark) (r : Key) (ps : List Rs) (ys : List Mark) → Each (λ p. p ≢ []) ps → Ascend ((xs ++ Row r ∷ []) ++ (map (row_mark cols) (joined ps) ++ ys)) → Ascend ((xs ++ Row r ∷ []) ++ (flat_map (part_marks cols) ps ++ ys))
+spread cols xs r [] ys full a = a
+spread cols xs r ([] ∷ ps) ys full a = absurd (full.0 refl)
+spread cols xs r ((q ∷ qs) ∷ ps) ys full a =
+    let k : Key = key_of cols q in
+    let e : EndsIn cols (q ∷ qs) = ends_in cols q qs in
+    let rest : List Mark = map (row_mark cols) (joined ps) ++ ys in
+    let m1 : map (row_mark cols) ((q ∷ qs) ++ joined ps) ++ ys ≡ Row (key_of cols q) ∷ (map (row_mark cols) qs ++ (map (row_mark cols) (joined ps) ++ ys)) =
+        ap (λ (l : List Mark). l ++ ys) (map-marks cols (q ∷ qs) (joined ps)) ∙ append_assoc (map (row_mark cols) (q ∷ qs)) (map (row_mark cols) (joined ps)) ys in
+    let a1 : Ascend (xs ++ Row r ∷ Row (key_of cols q) ∷ (map (row_mark cols) qs ++ (map (row_mark cols) (joined ps) ++ ys))) =
+        subst Ascend (ap (λ (l : List Mark). (xs ++ Row r ∷ []) ++ l) m1 ∙ append_assoc xs (Row r ∷ []) (Row (key_of cols q) ∷ (map (row_mark cols) qs ++ (map (row_mark cols) (joined ps) ++ ys)))) a in
+    let a2 : Ascend (xs ++ Row r ∷ Least (key_of cols q) ∷ Row (key_of cols q) ∷ (map (row_mark cols) qs ++ (map (row_mark cols) (joined ps) ++ ys))) = ascend-part xs r (key_of cols q) (map (row_mark cols) qs ++ (map (row_mark cols) (joined ps) ++ ys)) a1 in
+    let next : List Mark = xs ++ Row r ∷ Least (key_of cols q) ∷ e.front in
+    let regroup : (w : List Mark) → xs ++ Row r ∷ Least (key_of cols q) ∷ (map (row_mark cols) (q ∷ qs) ++ w) ≡ ((xs ++ Row r ∷ Least (key_of cols q) ∷ e.front) ++ Row e.key ∷ []) ++ w =
+        λ w. ap (λ (l : List Mark). xs ++ Row r ∷ Least (key_of cols q) ∷ (l ++ w)) e.are
+        ∙ sym (ap (λ (l : List Mark). l ++ w) (append_assoc xs (Row r ∷ Least (key_of cols q) ∷ e.front) (Row e.key ∷ [])) ∙ append_assoc xs (Row r ∷ Least (key_of cols q) ∷ (e.front ++ Row e.key ∷ [])) w) in
+    let a3 : Ascend (((xs ++ Row r ∷ Least (key_of cols q) ∷ e.front) ++ Row e.key ∷ []) ++ (map (row_mark cols) (joined ps) ++ ys)) = subst Ascend (regroup (map (row_mark cols) (joined ps) ++ ys)) a2 in
+    let a4 : Ascend (((xs ++ Row r ∷ Least (key_of cols q) ∷ e.front) ++ Row e.key ∷ []) ++ (flat_map (part_marks cols) ps ++ ys)) = spread cols (xs ++ Row r ∷ Least (key_of cols q) ∷ e.front) e.key ps ys full.1 a3 in
+    subst Ascend (sym (regroup (flat_map (part_marks cols) ps ++ ys))
+      ∙ ap (λ (l : List Mark). xs ++ Row r ∷ l) (sym (append_assoc (part_marks cols (q ∷ qs)) (flat_map (part_marks cols) ps) ys)) ∙ sym (append_assoc xs (Row r ∷ []) ((part_marks cols (q ∷ qs) ++ flat_map (part_marks cols) ps) ++ ys))) a4
+
+-- the first part stays behind what stands before it
+laid_order : (cols : List Column) (xs : List Mark) (p : Rs) (ps : List Rs) (ys : List Mark) → p ≢ [] → Each (λ p. p ≢ []) ps → Ascend (xs ++ (map (row_mark cols) (p ++ joined ps) ++ ys)) → Ascend (xs ++ ((map (row_mark cols) p ++ flat_map (part_marks cols) ps) ++ ys))
+laid_order cols xs [] ps ys some full a = absurd (some refl)
+laid_order cols xs (q ∷ qs) ps ys some full a =
+    let e : EndsIn cols (q ∷ qs) = ends_in cols q qs in
+    let regroup : (w : List Mark) → xs ++ ((map (row_mark cols) (q ∷ qs) ++ w) ++ ys) ≡ ((xs ++ e.front) ++ Row e.key ∷ []) ++ (w ++ ys) =
+        λ w. ap (λ (l : List Mark). xs ++ l) (append_assoc (map (row_mark cols) (q ∷ qs)) w ys ∙ ap (λ (l : List Mark). l ++ (w ++ ys)) e.are)
+        ∙ sym (ap (λ (l : List Mark). l ++ (w ++ ys)) (append_assoc xs e.front (Row e.key ∷ [])) ∙ append_assoc xs (e.front ++ Row e.key ∷ []) (w ++ ys)) in
+    subst Ascend (sym (regroup (flat_map (part_marks cols) ps)))
+    (spread cols (xs ++ e.front) e.key ps ys full (subst Ascend (ap (λ (l : List Mark). xs ++ (l ++ ys)) (map-marks cols (q ∷ qs) (joined ps)) ∙ regroup (map (row_mark cols) (joined ps))) a))
+
+-- PAGES THAT WERE MADE
+
+made_marks : (cols : List Column) (t : PageId → Sheet) (es : List Entry) (ps : List Rs) → AreMade leaf_of_rows (first_key cols) (λ i. record { file = 0; page = 0 }) t es ps → PartsRise cols ps → flat_map (marks_of (inside cols t 0)) es ≡ flat_map (part_marks cols) ps
+made_marks cols t [] [] m r = refl
+made_marks cols t [] (p ∷ ps) m r = absurd m
+made_marks cols t (e ∷ es) [] m r = absurd m
+made_marks cols t (e ∷ es) (p ∷ ps) m r =
+    let here : inside cols t 0 e.page ≡ map (row_mark cols) p = ap (λ (x : Sheet). map (row_mark cols) (rows_in_order cols (leaf_in x))) m.1 ∙ ap (map (row_mark cols)) (risen_rows cols p r.0) in
+    let rest = made_marks cols t es ps m.2 r.1 in
+    λ i. (own (m.0 i) ++ here i) ++ rest i
+
+made_rows : (cols : List Column) (t : PageId → Sheet) (es : List Entry) (ps : List Rs) → AreMade leaf_of_rows (first_key cols) (λ i. record { file = 0; page = 0 }) t es ps → PartsRise cols ps → flat_map (λ e. rows_of cols t 0 e.page) es ≡ joined ps
+made_rows cols t [] [] m r = refl
+made_rows cols t [] (p ∷ ps) m r = absurd m
+made_rows cols t (e ∷ es) [] m r = absurd m
+made_rows cols t (e ∷ es) (p ∷ ps) m r =
+    let here : rows_of cols t 0 e.page ≡ p = ap (λ (x : Sheet). rows_in_order cols (leaf_in x)) m.1 ∙ risen_rows cols p r.0 in
+    let rest = made_rows cols t es ps m.2 r.1 in
+    λ i. here i ++ rest i
+
+alone : (t : PageId → Sheet) (es : List Entry) → Below t 0 es ≡ map (λ e. e.page) es
+alone t [] = refl
+alone t (e ∷ es) = ap (λ (l : List PageId). e.page ∷ l) (alone t es)
