@@ -1,11 +1,13 @@
 -- Parts that go to claimed pages: each page has its part, and no other page changes.
-use Rattle.std.proofs.Common.{◌≡◌, ◌≢◌, ◌<◌, ◌≤◌, ◌+◌, ℕ, zero, suc, Bool, true, false, cond, List, [], ◌∷◌, ◌++◌, length, refl, ap, sym, ◌∙◌, subst, arith, map}
+use Rattle.std.proofs.Common.{◌≡◌, ◌≢◌, ◌<◌, ◌≤◌, ◌+◌, ◌-◌, ℕ, zero, suc, Bool, true, false, cond, List, [], ◌∷◌, ◌++◌, length, refl, ap, sym, ◌∙◌, subst, arith, map}
 use Rattle.std.specs.Prelude.{Option}
 use Rattle.page_base.specs.declared.numbers.PageId.{PageId}
 use Rattle.page_base.specs.Pages.{set_at}
+use Rattle.table_walk.specs.Addresses.{IsTarget}
 use Rattle.tree_laws.specs.Keys.{Key}
 use Rattle.tree_laws.specs.Puts.{claim, hand_out}
 use Rattle.tree_laws.specs.Sheets.{Entry, Sheet, Stand, Grown}
+use Rattle.tree_laws.proofs.Lists.{Each}
 use Rattle.tree_laws.proofs.Times.{times, times-append, times_here, times_first, set_same, set_other}
 
 -- so many claimed pages from one on
@@ -26,6 +28,24 @@ claimed_more claimed a (suc k) l =
 -- how often a page is among the first of those, and among the others
 pub times_claimed : (claimed : ℕ → PageId) (a k l : ℕ) (q : PageId) → times q (claimed_from claimed a (k + l)) ≡ times q (claimed_from claimed a k) + times q (claimed_from claimed (a + k) l)
 times_claimed claimed a k l q = ap (times q) (claimed_more claimed a k l) ∙ times-append q (claimed_from claimed a k) (claimed_from claimed (a + k) l)
+
+-- fewer of them
+pub claimed_fewer : (claimed : ℕ → PageId) (a k r : ℕ) (q : PageId) → k ≤ r → times q (claimed_from claimed a k) ≤ times q (claimed_from claimed a r)
+claimed_fewer claimed a k r q le =
+    let sum : k + (r - k) ≡ r = omega arith in
+    omega (arith, times_claimed claimed a k (r - k) q, ap (λ (n : ℕ). times q (claimed_from claimed a n)) sum)
+
+pub targets_of : (claimed : ℕ → PageId) (es : List Entry) (a k : ℕ) → map (λ e. e.page) es ≡ claimed_from claimed a k → ((i : ℕ) → a ≤ i → i < a + k → IsTarget (claimed i)) → Each (λ e. IsTarget e.page) es
+targets_of claimed [] a k e t = tt
+targets_of claimed (x ∷ es) a zero e t = absurd (cc)
+targets_of claimed (x ∷ es) a (suc k) e t =
+    let here : x.page ≡ claimed a = cc in
+    let rest : map (λ e. e.page) es ≡ claimed_from claimed (a + 1) k = cc in
+    (subst IsTarget (sym here) (t a (omega arith) (omega arith)), targets_of claimed es (a + 1) k rest (λ i low high. t i (omega (arith, low)) (omega (arith, high))))
+
+pub hand_claims : {X : Type 0} (make : List X → Sheet) (least : List X → Option Key) (claimed : ℕ → PageId) (parts : List (List X)) (s : Stand) → (hand_out make least claimed parts s).stand.claims ≡ s.claims + length parts
+hand_claims make least claimed [] s = omega arith
+hand_claims make least claimed (part ∷ parts) s = let next : (s.claims + 1) + length parts ≡ s.claims + suc (length parts) = omega arith in hand_claims make least claimed parts (claim claimed (make part) s) ∙ next
 
 module _ {X : Type 0} (make : List X → Sheet) (least : List X → Option Key) (claimed : ℕ → PageId) where
   -- each entry names a page with its part

@@ -1,6 +1,6 @@
 -- A row is put into a leaf: it has room, or the leaf's rows are laid on it and on new pages.
 use Rattle.std.proofs.Common.{◌≡◌, ◌≢◌, ◌≤◌, ◌<◌, ◌+◌, ◌-◌, ◌*◌, ◌||◌, ℕ, zero, suc, Bool, true, false, cond, List, [], ◌∷◌, ◌++◌, length, map, refl, ap, sym, ◌∙◌, subst, arith, append_assoc, append-nil, ◌⊎◌, inl, inr}
-use Rattle.std.specs.Prelude.{Option, None, Some, nat_le}
+use Rattle.std.specs.Prelude.{Option, None, Some, is_some, nat_le}
 use Rattle.std.specs.List.{flat_map}
 use Rattle.std.specs.FinMap as finite
 use Rattle.std.specs.Ordering.{is_le}
@@ -13,6 +13,7 @@ use Rattle.page_base.specs.Pages.{set_at}
 use Rattle.page_fmt.specs.Spelling.{used, row_bytes as bytes_in, FitsPage, LastIsFull}
 use Rattle.plain_model.specs.Tables.{Rows as Map, key_of}
 use Rattle.row_fmt.specs.Rows.{row_bytes}
+use Rattle.table_walk.specs.Addresses.{IsTarget}
 use Rattle.table_walk.specs.Leaves.{Leaf, cell, rows_in, ByKeys, has, holds, changed, added}
 use Rattle.table_walk.proofs.LeafLemmas.{is_there}
 use Rattle.tree_laws.specs.Keys.{Key}
@@ -23,7 +24,7 @@ use Rattle.tree_laws.specs.Puts.{placed_row, rows_in_order, row_size, leaf_of_ro
 use Rattle.tree_laws.specs.Sheets.{Entry, Sheet, Stand, Grown, slots_in, fits, leaf_in}
 use Rattle.tree_laws.specs.Sheets.Sheet.{Rows, Inner}
 use Rattle.tree_laws.specs.Trees.{row_mark, marks_of, inside, rows_of, pages_of}
-use Rattle.tree_laws.proofs.HandOut.{claimed_from, AreMade, IsHanded, handed}
+use Rattle.tree_laws.proofs.HandOut.{claimed_from, claimed_fewer, targets_of, hand_claims, AreMade, IsHanded, handed}
 use Rattle.tree_laws.proofs.KeyOrder.{Below as KeyBelow, upto_of}
 use Rattle.tree_laws.proofs.LeafOrder.{leaf_order}
 use Rattle.tree_laws.proofs.LeafRows.{to_sorted, from_sorted, with_row_by_keys}
@@ -217,8 +218,10 @@ spread cols xs r ((q ∷ qs) ∷ ps) ys full a =
       ∙ ap (λ (l : List Mark). xs ++ Row r ∷ l) (sym (append_assoc (part_marks cols (q ∷ qs)) (flat_map (part_marks cols) ps) ys)) ∙ sym (append_assoc xs (Row r ∷ []) ((part_marks cols (q ∷ qs) ++ flat_map (part_marks cols) ps) ++ ys))) a4
 
 -- the first part stays behind what stands before it
-laid_order : (cols : List Column) (xs : List Mark) (p : Rs) (ps : List Rs) (ys : List Mark) → p ≢ [] → Each (λ p. p ≢ []) ps → Ascend (xs ++ (map (row_mark cols) (p ++ joined ps) ++ ys)) → Ascend (xs ++ ((map (row_mark cols) p ++ flat_map (part_marks cols) ps) ++ ys))
-laid_order cols xs [] ps ys some full a = absurd (some refl)
+laid_order : (cols : List Column) (xs : List Mark) (p : Rs) (ps : List Rs) (ys : List Mark) → (p ≢ []) ⊎ (ps ≡ []) → Each (λ p. p ≢ []) ps → Ascend (xs ++ (map (row_mark cols) (p ++ joined ps) ++ ys)) → Ascend (xs ++ ((map (row_mark cols) p ++ flat_map (part_marks cols) ps) ++ ys))
+laid_order cols xs [] ps ys (inl some) full a = absurd (some refl)
+laid_order cols xs [] [] ys (inr none) full a = a
+laid_order cols xs [] (q ∷ ps) ys (inr none) full a = absurd (cc)
 laid_order cols xs (q ∷ qs) ps ys some full a =
     let e : EndsIn cols (q ∷ qs) = ends_in cols q qs in
     let regroup : (w : List Mark) → xs ++ ((map (row_mark cols) (q ∷ qs) ++ w) ++ ys) ≡ ((xs ++ e.front) ++ Row e.key ∷ []) ++ (w ++ ys) =
@@ -250,3 +253,124 @@ made_rows cols t (e ∷ es) (p ∷ ps) m r =
 alone : (t : PageId → Sheet) (es : List Entry) → Below t 0 es ≡ map (λ e. e.page) es
 alone t [] = refl
 alone t (e ∷ es) = ap (λ (l : List PageId). e.page ∷ l) (alone t es)
+
+-- THE LEAF, AND THE PAGES BESIDE IT
+
+first_or_none : (xs p : Rs) (ps : List Rs) → Each (λ r. row_size r ≤ 8096) xs → fill row_size 8096 8096 xs ≡ p ∷ ps → ((p ≢ []) ⊎ (ps ≡ [])) × Each (λ p. p ≢ []) ps
+first_or_none [] p ps small e = let same : ps ≡ [] = sym (tail_is e) in (inr same, subst (Each (λ p. p ≢ [])) (sym same) tt)
+  where
+    tail_is : ◌≡◌ {A = List Rs} ([] ∷ []) (p ∷ ps) → [] ≡ ps
+    tail_is e = cc
+first_or_none (x ∷ xs) p ps small e =
+    let full : Each (λ p. p ≢ []) (p ∷ ps) = subst (Each (λ p. p ≢ [])) e (all_full row_size 8096 8096 x xs small.0) in
+    (inl full.0, full.1)
+
+module _ (cols : List Column) (P : List Value → Type 0) (K : Key → Type 0) (rules : AreRules cols P K) (claimed : ℕ → PageId) (row : List Value) (good : P row) where
+  bytes_each : (rs : Rs) → Each P rs → Each (λ r. row_bytes r ≢ []) rs
+  bytes_each rs h = each-map P (λ r. row_bytes r ≢ []) rs (λ r p. rules.some r p) h
+
+  size_each : (rs : Rs) → Each P rs → Each (λ r. row_size r ≤ 8096) rs
+  size_each rs h = each-map P (λ r. row_size r ≤ 8096) rs (λ r p. rules.small r p) h
+
+  leaf_of : (part : Rs) → Each P part → total row_size part ≤ 8096 → IsLeaf P (leaf_of_rows part)
+  leaf_of part each fit = (refl, fits_rows part fit (bytes_each part each), subst (Each P) (sym (rows_in-some part)) each)
+
+  new_pages : (t : PageId → Sheet) (es : List Entry) (ps : List Rs) → AreMade leaf_of_rows (first_key cols) claimed t es ps → Each (λ e. IsTarget e.page) es → Each (λ p. p ≢ []) ps → Each (Each P) ps → Each (λ p. total row_size p ≤ 8096) ps
+      → Each (λ e. IsEntry K e × HasLeast e × IsSound P K t 0 e.least e.page) es
+  new_pages t [] [] m targets full each fit = tt
+  new_pages t [] (p ∷ ps) m targets full each fit = absurd m
+  new_pages t (e ∷ es) [] m targets full each fit = absurd m
+  new_pages t (e ∷ es) ([] ∷ ps) m targets full each fit = absurd (full.0 refl)
+  new_pages t (e ∷ es) ((q ∷ qs) ∷ ps) m targets full each fit =
+      ((record { target = targets.0; least = subst (LeastIs K) (sym m.0) (rules.key q each.0.0) }, subst (λ (o : Option Key). is_some o ≡ true) (sym m.0) refl, subst (IsLeaf P) (sym m.1) (leaf_of (q ∷ qs) each.0 fit.0)),
+       new_pages t es ps m.2 targets.1 full.1 each.1 fit.1)
+
+  module _ (s : Stand) (least : Option Key) (p : PageId) (r : ℕ) (sound : IsSound P K s.sheets 0 least p) (asc : Ascend (inside cols s.sheets 0 p)) (free : IsFree P K claimed s.claims r (p ∷ [])) where
+    -- the leaf with the row
+    abbrev New : Leaf
+    New = with_row cols row (leaf_in (s.sheets p))
+
+    new_each : Each P (rows_in New)
+    new_each = with_row_each P cols row (leaf_in (s.sheets p)) good sound.2
+
+    new_last : LastIsFull (map cell New)
+    new_last =
+        last_with cols row (leaf_in (s.sheets p)) (rules.some row good) (bytes_each (rows_in (leaf_in (s.sheets p))) sound.2)
+        (subst (λ (x : Sheet). LastIsFull (slots_in x)) sound.0 sound.1.last)
+
+    new_order : (xs ys : List Mark) → Ascend (xs ++ (inside cols s.sheets 0 p ++ ys)) → Each (λ m. Precedes m (Row (key_of cols row))) xs → Each (Precedes (Row (key_of cols row))) ys → Ascend (xs ++ (map (row_mark cols) (rows_in_order cols New) ++ ys))
+    new_order xs ys a low high = leaf_order cols row (leaf_in (s.sheets p)) xs ys a low high
+
+    new_rows : (cs ds : Rs) (m : Map) → ByKeys cols (cs ++ (rows_of cols s.sheets 0 p ++ ds)) m → is_there cols (key_of cols row) cs ≡ false → is_there cols (key_of cols row) ds ≡ false → ByKeys cols (cs ++ (rows_in_order cols New ++ ds)) (finite.insert m (key_of cols row) row)
+    new_rows cs ds m a no_cs no_ds =
+        to_sorted cols New cs ds (finite.insert m (key_of cols row) row) (with_row_by_keys cols row (leaf_in (s.sheets p)) cs ds m (from_sorted cols (leaf_in (s.sheets p)) cs ds m a) no_cs no_ds)
+
+    new_rise : RowsRise cols (rows_in_order cols New)
+    new_rise =
+        rise_of cols (rows_in_order cols New) (subst Ascend (append-nil (map (row_mark cols) (rows_in_order cols New)))
+        (new_order [] [] (subst Ascend (sym (append-nil (inside cols s.sheets 0 p))) asc) tt tt))
+
+    apart : (q : PageId) → times q (p ∷ []) ≡ 0 → p ≢ q
+    apart q none e = let there : 1 ≤ times q (p ∷ []) = subst (λ (x : PageId). 1 ≤ times q (x ∷ [])) (sym e) (times_here q []) in absurd (omega (arith, none, there))
+
+    stays : fits (Rows New) ≡ true → IsGrown P K cols claimed row 0 s least p (record { stand = with_sheet p (Rows New) s; more = [] })
+    stays fit =
+        let at : set_at s.sheets p (Rows New) p ≡ Rows New = set_same s.sheets p (Rows New) in
+        let small : used (slots_in (Rows New)) ≤ 8192 = leb-true (used (slots_in (Rows New))) 8192 fit in
+        let leaf_is : IsLeaf P (Rows New) = (refl, record { small = small; last = new_last }, new_each) in
+        record {
+          used = 0;
+          claims = omega arith;
+          sound = subst (IsLeaf P) (sym at) leaf_is;
+          new = tt;
+          order = λ xs ys a low high. subst (λ (l : List Mark). Ascend (xs ++ (l ++ ys))) (sym (append-nil (inside cols (set_at s.sheets p (Rows New)) 0 p) ∙ ap (λ (x : Sheet). map (row_mark cols) (rows_in_order cols (leaf_in x))) at)) (new_order xs ys a low high);
+          rows = λ cs ds m a no_cs no_ds. subst (λ (l : Rs). ByKeys cols (cs ++ (l ++ ds)) (finite.insert m (key_of cols row) row)) (sym (append-nil (rows_of cols (set_at s.sheets p (Rows New)) 0 p) ∙ ap (λ (x : Sheet). rows_in_order cols (leaf_in x)) at)) (new_rows cs ds m a no_cs no_ds);
+          pages = λ q. refl;
+          others = λ q none claims. set_other s.sheets p q (Rows New) (apart q none);
+        }
+
+    laid : (p0 : Rs) (ps : List Rs) → fill row_size 8096 8096 (rows_in_order cols New) ≡ p0 ∷ ps → (hand_out leaf_of_rows (first_key cols) claimed ps (with_sheet p (leaf_of_rows p0) s)).stand.claims ≤ s.claims + r
+        → IsGrown P K cols claimed row 0 s least p (hand_out leaf_of_rows (first_key cols) claimed ps (with_sheet p (leaf_of_rows p0) s))
+    laid p0 ps is budget =
+        let g : Grown = hand_out leaf_of_rows (first_key cols) claimed ps (with_sheet p (leaf_of_rows p0) s) in
+        let few : length ps ≤ r = omega (arith, budget, hand_claims leaf_of_rows (first_key cols) claimed ps (with_sheet p (leaf_of_rows p0) s)) in
+        let h : IsHanded leaf_of_rows (first_key cols) claimed ps (with_sheet p (leaf_of_rows p0) s) (hand_out leaf_of_rows (first_key cols) claimed ps (with_sheet p (leaf_of_rows p0) s)) =
+            handed leaf_of_rows (first_key cols) claimed ps (with_sheet p (leaf_of_rows p0) s) (λ q. omega (arith, free.once q, claimed_fewer claimed s.claims (length ps) r q few)) in
+        let all : p0 ++ joined ps ≡ rows_in_order cols New = ap joined (sym is) ∙ joined-fill row_size 8096 8096 (rows_in_order cols New) in
+        let each : Each P (rows_in_order cols New) = order_each P cols New new_each in
+        let sizes : Each (λ r. row_size r ≤ 8096) (rows_in_order cols New) = size_each (rows_in_order cols New) each in
+        let fit : Fit row_size 8096 (p0 ∷ ps) = subst (Fit row_size 8096) is (fit-whole row_size 8096 (fill row_size 8096 8096 (rows_in_order cols New)) (fit-fill row_size 8096 8096 (rows_in_order cols New) (small_rows (rows_in_order cols New) sizes))) in
+        let full = first_or_none (rows_in_order cols New) p0 ps sizes is in
+        let rise : PartsRise cols (p0 ∷ ps) = parts_rise cols (p0 ∷ ps) (subst (RowsRise cols) (sym all) new_rise) in
+        let eaches : Each (Each P) (p0 ∷ ps) = parts_each P (p0 ∷ ps) (subst (Each P) (sym all) each) in
+        let fits_all : Each (λ p. total row_size p ≤ 8096) (p0 ∷ ps) = parts_fit (p0 ∷ ps) fit in
+        let none_p : times p (claimed_from claimed s.claims (length ps)) ≡ 0 = omega (arith, free.once p, times_first p [], claimed_fewer claimed s.claims (length ps) r p few) in
+        let at : g.stand.sheets p ≡ leaf_of_rows p0 = h.others p none_p ∙ set_same s.sheets p (leaf_of_rows p0) in
+        let mine : inside cols g.stand.sheets 0 p ≡ map (row_mark cols) p0 = ap (λ (x : Sheet). map (row_mark cols) (rows_in_order cols (leaf_in x))) at ∙ ap (map (row_mark cols)) (risen_rows cols p0 rise.0) in
+        let mine_rows : rows_of cols g.stand.sheets 0 p ≡ p0 = ap (λ (x : Sheet). rows_in_order cols (leaf_in x)) at ∙ risen_rows cols p0 rise.0 in
+        let theirs = made_marks cols g.stand.sheets g.more ps h.made rise.1 in
+        let theirs_rows = made_rows cols g.stand.sheets g.more ps h.made rise.1 in
+        record {
+          used = length ps;
+          claims = h.claims;
+          sound = subst (IsLeaf P) (sym at) (leaf_of p0 eaches.0 fits_all.0);
+          new = new_pages g.stand.sheets g.more ps h.made (targets_of claimed g.more s.claims (length ps) h.pages (λ i low high. free.targets i low (omega (arith, high, few)))) full.1 eaches.1 fits_all.1;
+          order = λ xs ys a low high. subst (λ (l : List Mark). Ascend (xs ++ (l ++ ys))) (λ i. sym mine i ++ sym theirs i)
+              (laid_order cols xs p0 ps ys full.0 full.1 (subst (λ (rs : Rs). Ascend (xs ++ (map (row_mark cols) rs ++ ys))) (sym all) (new_order xs ys a low high)));
+          rows = λ cs ds m a no_cs no_ds. subst (λ (l : Rs). ByKeys cols (cs ++ (l ++ ds)) (finite.insert m (key_of cols row) row)) (sym all ∙ (λ i. sym mine_rows i ++ sym theirs_rows i)) (new_rows cs ds m a no_cs no_ds);
+          pages = λ q. ap (λ (l : List PageId). times q (p ∷ []) + times q l) (alone g.stand.sheets g.more ∙ h.pages);
+          others = λ q none claims. h.others q claims ∙ set_other s.sheets p q (leaf_of_rows p0) (apart q none);
+        }
+
+    pub leaf_grown : (put_below cols claimed row 0 p s).stand.claims ≤ s.claims + r → IsGrown P K cols claimed row 0 s least p (put_below cols claimed row 0 p s)
+    leaf_grown budget = by (fits (Rows New)) refl budget
+      where
+        parts : (ps : List Rs) → fill row_size 8096 8096 (rows_in_order cols New) ≡ ps → (lay leaf_of_rows (first_key cols) claimed p ps s).stand.claims ≤ s.claims + r → IsGrown P K cols claimed row 0 s least p (lay leaf_of_rows (first_key cols) claimed p ps s)
+        parts [] is b = absurd (some_part row_size 8096 8096 (rows_in_order cols New) is)
+        parts (p0 ∷ ps) is b = laid p0 ps is b
+
+        by : (b : Bool) → fits (Rows New) ≡ b
+            → (cond b (record { stand = with_sheet p (Rows New) s; more = [] }) (lay leaf_of_rows (first_key cols) claimed p (fill row_size 8096 8096 (rows_in_order cols New)) s)).stand.claims ≤ s.claims + r
+            → IsGrown P K cols claimed row 0 s least p (cond b (record { stand = with_sheet p (Rows New) s; more = [] }) (lay leaf_of_rows (first_key cols) claimed p (fill row_size 8096 8096 (rows_in_order cols New)) s))
+        by true fit b = stays fit
+        by false fit b = parts (fill row_size 8096 8096 (rows_in_order cols New)) refl b
