@@ -139,7 +139,7 @@ put_between es xs (m ∷ more) ys is r =
     let behind : Each (Before m) ys = each-right (Before m) more ys tail.0 in
     let differ : Each (λ d. Differ d m) (xs ++ ys) = each-append (λ d. Differ d m) xs ys (each-map (λ x. Before x m) (λ d. Differ d m) xs (λ x b. inl b) before) (each-map (Before m) (λ d. Differ d m) ys (λ y b. inr b) behind) in
     let one : in_key_order (put_entry m es) ≡ (xs ++ m ∷ []) ++ ys =
-        put_is_placed m es (slots-each (λ d. Differ d m) es (subst (Each (λ d. Differ d m)) (sym is) differ)) ∙ ap (placed_entry m) is ∙ placed_between m xs ys before behind ∙ sym (append_assoc xs (m ∷ []) ys) in
+    put_is_placed m es (slots-each (λ d. Differ d m) es (subst (Each (λ d. Differ d m)) (sym is) differ)) ∙ ap (placed_entry m) is ∙ placed_between m xs ys before behind ∙ sym (append_assoc xs (m ∷ []) ys) in
     put_between (put_entry m es) (xs ++ m ∷ []) more ys one (subst Rises (sym (append_assoc xs (m ∷ []) (more ++ ys))) r) ∙ append_assoc xs (m ∷ []) (more ++ ys)
 
 -- entries that rise stand in key order as they are

@@ -203,13 +203,13 @@ leaf_order cols row leaf xs ys a low high = by (holds cols (key_of cols row) lea
         let p : Parted (key_of cols row) (keys_of cols leaf) = parted (key_of cols row) (keys_of cols leaf) (other_keys cols (key_of cols row) leaf e) mid in
         let two : map Row (keys_of cols leaf) ≡ map Row p.front ++ map Row p.back = ap (map Row) p.are ∙ map-rows p.front p.back in
         let spread : xs ++ (map Row (keys_of cols leaf) ++ ys) ≡ (xs ++ map Row p.front) ++ (map Row p.back ++ ys) =
-            ap (λ (ms : List Mark). xs ++ (ms ++ ys)) two ∙ ap (λ (ms : List Mark). xs ++ ms) (append_assoc (map Row p.front) (map Row p.back) ys) ∙ sym (append_assoc xs (map Row p.front) (map Row p.back ++ ys)) in
+        ap (λ (ms : List Mark). xs ++ (ms ++ ys)) two ∙ ap (λ (ms : List Mark). xs ++ ms) (append_assoc (map Row p.front) (map Row p.back) ys) ∙ sym (append_assoc xs (map Row p.front) (map Row p.back ++ ys)) in
         let put : Ascend ((xs ++ map Row p.front) ++ Row (key_of cols row) ∷ (map Row p.back ++ ys)) =
-            ascend-put (key_of cols row) (xs ++ map Row p.front) (map Row p.back ++ ys) (subst Ascend spread old)
-            (each-append (λ m. Precedes m (Row (key_of cols row))) xs (map Row p.front) low (low_marks (key_of cols row) p.front p.low))
-            (each-append (Precedes (Row (key_of cols row))) (map Row p.back) ys (high_marks (key_of cols row) p.back p.high) high) in
+        ascend-put (key_of cols row) (xs ++ map Row p.front) (map Row p.back ++ ys) (subst Ascend spread old)
+        (each-append (λ m. Precedes m (Row (key_of cols row))) xs (map Row p.front) low (low_marks (key_of cols row) p.front p.low))
+        (each-append (Precedes (Row (key_of cols row))) (map Row p.back) ys (high_marks (key_of cols row) p.back p.high) high) in
         let keys : map Row (keys_of cols (added row leaf)) ≡ map Row p.front ++ Row (key_of cols row) ∷ map Row p.back = ap (map Row) (added_keys cols row leaf e ∙ p.placed) ∙ map-rows p.front (key_of cols row ∷ p.back) in
         let back : (xs ++ map Row p.front) ++ Row (key_of cols row) ∷ (map Row p.back ++ ys) ≡ xs ++ (map Row (keys_of cols (added row leaf)) ++ ys) =
-            append_assoc xs (map Row p.front) (Row (key_of cols row) ∷ (map Row p.back ++ ys)) ∙ ap (λ (ms : List Mark). xs ++ ms) (sym (append_assoc (map Row p.front) (Row (key_of cols row) ∷ map Row p.back) ys))
-            ∙ ap (λ (ms : List Mark). xs ++ (ms ++ ys)) (sym keys) in
+        append_assoc xs (map Row p.front) (Row (key_of cols row) ∷ (map Row p.back ++ ys)) ∙ ap (λ (ms : List Mark). xs ++ ms) (sym (append_assoc (map Row p.front) (Row (key_of cols row) ∷ map Row p.back) ys))
+        ∙ ap (λ (ms : List Mark). xs ++ (ms ++ ys)) (sym keys) in
         new (added row leaf) (subst Ascend back put)

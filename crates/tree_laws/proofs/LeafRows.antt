@@ -51,7 +51,7 @@ to_sorted cols (Some r ∷ xs) cs ds m a =
     let p : PlacedAt cols r (rows_in_order cols xs) = placed_at cols r (rows_in_order cols xs) in
     let rest : ByKeys cols ((cs ++ r ∷ []) ++ (rows_in_order cols xs ++ ds)) m = to_sorted cols xs (cs ++ r ∷ []) ds m (subst (λ (l : Rs). ByKeys cols l m) (sym (append_assoc cs (r ∷ []) (rows_in xs ++ ds))) a) in
     let there : ByKeys cols (cs ++ r ∷ (p.front ++ (p.back ++ ds))) m =
-        subst (λ (l : Rs). ByKeys cols l m) (append_assoc cs (r ∷ []) (rows_in_order cols xs ++ ds) ∙ ap (λ (l : Rs). cs ++ r ∷ l) (ap (λ (l : Rs). l ++ ds) p.are ∙ append_assoc p.front p.back ds)) rest in
+    subst (λ (l : Rs). ByKeys cols l m) (append_assoc cs (r ∷ []) (rows_in_order cols xs ++ ds) ∙ ap (λ (l : Rs). cs ++ r ∷ l) (ap (λ (l : Rs). l ++ ds) p.are ∙ append_assoc p.front p.back ds)) rest in
     subst (λ (l : Rs). ByKeys cols l m) (ap (λ (l : Rs). cs ++ l) (sym (ap (λ (l : Rs). l ++ ds) p.placed ∙ append_assoc p.front (r ∷ p.back) ds))) (moved cols cs r p.front (p.back ++ ds) m there)
 
 pub from_sorted : (cols : List Column) (leaf : Leaf) (cs ds : Rs) (m : Rows) → ByKeys cols (cs ++ (rows_in_order cols leaf ++ ds)) m → ByKeys cols (cs ++ (rows_in leaf ++ ds)) m
@@ -61,7 +61,7 @@ from_sorted cols (Some r ∷ xs) cs ds m a =
     let p : PlacedAt cols r (rows_in_order cols xs) = placed_at cols r (rows_in_order cols xs) in
     let there : ByKeys cols (cs ++ (p.front ++ r ∷ (p.back ++ ds))) m = subst (λ (l : Rs). ByKeys cols l m) (ap (λ (l : Rs). cs ++ l) (ap (λ (l : Rs). l ++ ds) p.placed ∙ append_assoc p.front (r ∷ p.back) ds)) a in
     let front : ByKeys cols (cs ++ r ∷ (rows_in_order cols xs ++ ds)) m =
-        subst (λ (l : Rs). ByKeys cols (cs ++ r ∷ l) m) (sym (ap (λ (l : Rs). l ++ ds) p.are ∙ append_assoc p.front p.back ds)) (moved_back cols cs r p.front (p.back ++ ds) m there) in
+    subst (λ (l : Rs). ByKeys cols (cs ++ r ∷ l) m) (sym (ap (λ (l : Rs). l ++ ds) p.are ∙ append_assoc p.front p.back ds)) (moved_back cols cs r p.front (p.back ++ ds) m there) in
     subst (λ (l : Rs). ByKeys cols l m) (append_assoc cs (r ∷ []) (rows_in xs ++ ds)) (from_sorted cols xs (cs ++ r ∷ []) ds m (subst (λ (l : Rs). ByKeys cols l m) (sym (append_assoc cs (r ∷ []) (rows_in_order cols xs ++ ds))) front))
 
 no_more : (cols : List Column) (k : Key) (xs ys : Rs) → is_there cols k xs ≡ false → is_there cols k ys ≡ false → is_there cols k (xs ++ ys) ≡ false
@@ -87,13 +87,13 @@ with_row_by_keys cols row leaf cs ds m a no_cs no_ds = by (holds cols (key_of co
         let o : OneOf cols (cs ++ f.front) f.row (f.back ++ ds) m = out cols (cs ++ f.front) f.row (f.back ++ ds) m (subst (λ (l : Rs). ByKeys cols l m) (ap (λ (l : Rs). cs ++ (l ++ ds)) f.is ∙ around cs f.front f.back ds f.row) a) in
         let new : finite.get o.rest (key_of cols row) ≡ None = ap (finite.get o.rest) (sym f.key) ∙ o.new in
         let map_is : finite.insert o.rest (key_of cols row) row ≡ finite.insert m (key_of cols row) row =
-            sym (ap (λ (t : Rows). finite.insert t (key_of cols row) row) (o.all ∙ ap (λ (q : Key). finite.insert o.rest q f.row) f.key) ∙ put_put o.rest (key_of cols row) f.row row) in
+        sym (ap (λ (t : Rows). finite.insert t (key_of cols row) row) (o.all ∙ ap (λ (q : Key). finite.insert o.rest q f.row) f.key) ∙ put_put o.rest (key_of cols row) f.row row) in
         subst (λ (l : Rs). ByKeys cols l (finite.insert m (key_of cols row) row)) (sym (ap (λ (l : Rs). cs ++ (l ++ ds)) (f.swap row) ∙ around cs f.front f.back ds row))
         (subst (ByKeys cols ((cs ++ f.front) ++ row ∷ (f.back ++ ds))) map_is (inn cols (cs ++ f.front) row (f.back ++ ds) o.rest o.others new))
     by false e =
         let d : Added row leaf = added_is row leaf in
         let none : finite.get m (key_of cols row) ≡ None =
-            lacks cols (cs ++ (rows_in leaf ++ ds)) m (key_of cols row) a (no_more cols (key_of cols row) cs (rows_in leaf ++ ds) no_cs (no_more cols (key_of cols row) (rows_in leaf) ds (sym (holds_is cols (key_of cols row) leaf) ∙ e) no_ds)) in
+        lacks cols (cs ++ (rows_in leaf ++ ds)) m (key_of cols row) a (no_more cols (key_of cols row) cs (rows_in leaf ++ ds) no_cs (no_more cols (key_of cols row) (rows_in leaf) ds (sym (holds_is cols (key_of cols row) leaf) ∙ e) no_ds)) in
         let spread : cs ++ (rows_in leaf ++ ds) ≡ (cs ++ d.front) ++ (d.back ++ ds) = ap (λ (l : Rs). cs ++ (l ++ ds)) d.is ∙ ap (λ (l : Rs). cs ++ l) (append_assoc d.front d.back ds) ∙ sym (append_assoc cs d.front (d.back ++ ds)) in
         subst (λ (l : Rs). ByKeys cols l (finite.insert m (key_of cols row) row)) (sym (ap (λ (l : Rs). cs ++ (l ++ ds)) d.made ∙ around cs d.front d.back ds row))
         (inn cols (cs ++ d.front) row (d.back ++ ds) m (subst (λ (l : Rs). ByKeys cols l m) spread a) none)

@@ -204,18 +204,18 @@ spread cols xs r ((q ∷ qs) ∷ ps) ys full a =
     let e : EndsIn cols (q ∷ qs) = ends_in cols q qs in
     let rest : List Mark = map (row_mark cols) (joined ps) ++ ys in
     let m1 : map (row_mark cols) ((q ∷ qs) ++ joined ps) ++ ys ≡ Row (key_of cols q) ∷ (map (row_mark cols) qs ++ (map (row_mark cols) (joined ps) ++ ys)) =
-        ap (λ (l : List Mark). l ++ ys) (map-marks cols (q ∷ qs) (joined ps)) ∙ append_assoc (map (row_mark cols) (q ∷ qs)) (map (row_mark cols) (joined ps)) ys in
+    ap (λ (l : List Mark). l ++ ys) (map-marks cols (q ∷ qs) (joined ps)) ∙ append_assoc (map (row_mark cols) (q ∷ qs)) (map (row_mark cols) (joined ps)) ys in
     let a1 : Ascend (xs ++ Row r ∷ Row (key_of cols q) ∷ (map (row_mark cols) qs ++ (map (row_mark cols) (joined ps) ++ ys))) =
-        subst Ascend (ap (λ (l : List Mark). (xs ++ Row r ∷ []) ++ l) m1 ∙ append_assoc xs (Row r ∷ []) (Row (key_of cols q) ∷ (map (row_mark cols) qs ++ (map (row_mark cols) (joined ps) ++ ys)))) a in
+    subst Ascend (ap (λ (l : List Mark). (xs ++ Row r ∷ []) ++ l) m1 ∙ append_assoc xs (Row r ∷ []) (Row (key_of cols q) ∷ (map (row_mark cols) qs ++ (map (row_mark cols) (joined ps) ++ ys)))) a in
     let a2 : Ascend (xs ++ Row r ∷ Least (key_of cols q) ∷ Row (key_of cols q) ∷ (map (row_mark cols) qs ++ (map (row_mark cols) (joined ps) ++ ys))) = ascend-part xs r (key_of cols q) (map (row_mark cols) qs ++ (map (row_mark cols) (joined ps) ++ ys)) a1 in
     let next : List Mark = xs ++ Row r ∷ Least (key_of cols q) ∷ e.front in
     let regroup : (w : List Mark) → xs ++ Row r ∷ Least (key_of cols q) ∷ (map (row_mark cols) (q ∷ qs) ++ w) ≡ ((xs ++ Row r ∷ Least (key_of cols q) ∷ e.front) ++ Row e.key ∷ []) ++ w =
-        λ w. ap (λ (l : List Mark). xs ++ Row r ∷ Least (key_of cols q) ∷ (l ++ w)) e.are
-        ∙ sym (ap (λ (l : List Mark). l ++ w) (append_assoc xs (Row r ∷ Least (key_of cols q) ∷ e.front) (Row e.key ∷ [])) ∙ append_assoc xs (Row r ∷ Least (key_of cols q) ∷ (e.front ++ Row e.key ∷ [])) w) in
+    λ w. ap (λ (l : List Mark). xs ++ Row r ∷ Least (key_of cols q) ∷ (l ++ w)) e.are
+    ∙ sym (ap (λ (l : List Mark). l ++ w) (append_assoc xs (Row r ∷ Least (key_of cols q) ∷ e.front) (Row e.key ∷ [])) ∙ append_assoc xs (Row r ∷ Least (key_of cols q) ∷ (e.front ++ Row e.key ∷ [])) w) in
     let a3 : Ascend (((xs ++ Row r ∷ Least (key_of cols q) ∷ e.front) ++ Row e.key ∷ []) ++ (map (row_mark cols) (joined ps) ++ ys)) = subst Ascend (regroup (map (row_mark cols) (joined ps) ++ ys)) a2 in
     let a4 : Ascend (((xs ++ Row r ∷ Least (key_of cols q) ∷ e.front) ++ Row e.key ∷ []) ++ (flat_map (part_marks cols) ps ++ ys)) = spread cols (xs ++ Row r ∷ Least (key_of cols q) ∷ e.front) e.key ps ys full.1 a3 in
     subst Ascend (sym (regroup (flat_map (part_marks cols) ps ++ ys))
-      ∙ ap (λ (l : List Mark). xs ++ Row r ∷ l) (sym (append_assoc (part_marks cols (q ∷ qs)) (flat_map (part_marks cols) ps) ys)) ∙ sym (append_assoc xs (Row r ∷ []) ((part_marks cols (q ∷ qs) ++ flat_map (part_marks cols) ps) ++ ys))) a4
+    ∙ ap (λ (l : List Mark). xs ++ Row r ∷ l) (sym (append_assoc (part_marks cols (q ∷ qs)) (flat_map (part_marks cols) ps) ys)) ∙ sym (append_assoc xs (Row r ∷ []) ((part_marks cols (q ∷ qs) ++ flat_map (part_marks cols) ps) ++ ys))) a4
 
 -- the first part stays behind what stands before it
 laid_order : (cols : List Column) (xs : List Mark) (p : Rs) (ps : List Rs) (ys : List Mark) → (p ≢ []) ⊎ (ps ≡ []) → Each (λ p. p ≢ []) ps → Ascend (xs ++ (map (row_mark cols) (p ++ joined ps) ++ ys)) → Ascend (xs ++ ((map (row_mark cols) p ++ flat_map (part_marks cols) ps) ++ ys))
@@ -225,8 +225,8 @@ laid_order cols xs [] (q ∷ ps) ys (inr none) full a = absurd (cc)
 laid_order cols xs (q ∷ qs) ps ys some full a =
     let e : EndsIn cols (q ∷ qs) = ends_in cols q qs in
     let regroup : (w : List Mark) → xs ++ ((map (row_mark cols) (q ∷ qs) ++ w) ++ ys) ≡ ((xs ++ e.front) ++ Row e.key ∷ []) ++ (w ++ ys) =
-        λ w. ap (λ (l : List Mark). xs ++ l) (append_assoc (map (row_mark cols) (q ∷ qs)) w ys ∙ ap (λ (l : List Mark). l ++ (w ++ ys)) e.are)
-        ∙ sym (ap (λ (l : List Mark). l ++ (w ++ ys)) (append_assoc xs e.front (Row e.key ∷ [])) ∙ append_assoc xs (e.front ++ Row e.key ∷ []) (w ++ ys)) in
+    λ w. ap (λ (l : List Mark). xs ++ l) (append_assoc (map (row_mark cols) (q ∷ qs)) w ys ∙ ap (λ (l : List Mark). l ++ (w ++ ys)) e.are)
+    ∙ sym (ap (λ (l : List Mark). l ++ (w ++ ys)) (append_assoc xs e.front (Row e.key ∷ [])) ∙ append_assoc xs (e.front ++ Row e.key ∷ []) (w ++ ys)) in
     subst Ascend (sym (regroup (flat_map (part_marks cols) ps)))
     (spread cols (xs ++ e.front) e.key ps ys full (subst Ascend (ap (λ (l : List Mark). xs ++ (l ++ ys)) (map-marks cols (q ∷ qs) (joined ps)) ∙ regroup (map (row_mark cols) (joined ps))) a))
 
@@ -272,7 +272,7 @@ module _ (cols : List Column) (P : List Value → Type 0) (K : Key → Type 0) (
   size_each : (rs : Rs) → Each P rs → Each (λ r. row_size r ≤ 8096) rs
   size_each rs h = each-map P (λ r. row_size r ≤ 8096) rs (λ r p. rules.small r p) h
 
-  leaf_of : (part : Rs) → Each P part → total row_size part ≤ 8096 → IsLeaf P (leaf_of_rows part)
+  pub leaf_of : (part : Rs) → Each P part → total row_size part ≤ 8096 → IsLeaf P (leaf_of_rows part)
   leaf_of part each fit = (refl, fits_rows part fit (bytes_each part each), subst (Each P) (sym (rows_in-some part)) each)
 
   new_pages : (t : PageId → Sheet) (es : List Entry) (ps : List Rs) → AreMade leaf_of_rows (first_key cols) claimed t es ps → Each (λ e. IsTarget e.page) es → Each (λ p. p ≢ []) ps → Each (Each P) ps → Each (λ p. total row_size p ≤ 8096) ps
@@ -281,9 +281,10 @@ module _ (cols : List Column) (P : List Value → Type 0) (K : Key → Type 0) (
   new_pages t [] (p ∷ ps) m targets full each fit = absurd m
   new_pages t (e ∷ es) [] m targets full each fit = absurd m
   new_pages t (e ∷ es) ([] ∷ ps) m targets full each fit = absurd (full.0 refl)
-  new_pages t (e ∷ es) ((q ∷ qs) ∷ ps) m targets full each fit =
-      ((record { target = targets.0; least = subst (LeastIs K) (sym m.0) (rules.key q each.0.0) }, subst (λ (o : Option Key). is_some o ≡ true) (sym m.0) refl, subst (IsLeaf P) (sym m.1) (leaf_of (q ∷ qs) each.0 fit.0)),
-       new_pages t es ps m.2 targets.1 full.1 each.1 fit.1)
+  new_pages t (e ∷ es) ((q ∷ qs) ∷ ps) m targets full each fit = (
+    (record { target = targets.0; least = subst (LeastIs K) (sym m.0) (rules.key q each.0.0) }, subst (λ (o : Option Key). is_some o ≡ true) (sym m.0) refl, subst (IsLeaf P) (sym m.1) (leaf_of (q ∷ qs) each.0 fit.0)),
+    new_pages t es ps m.2 targets.1 full.1 each.1 fit.1,
+  )
 
   module _ (s : Stand) (least : Option Key) (p : PageId) (r : ℕ) (sound : IsSound P K s.sheets 0 least p) (asc : Ascend (inside cols s.sheets 0 p)) (free : IsFree P K claimed s.claims r (p ∷ [])) where
     -- the leaf with the row
@@ -335,7 +336,7 @@ module _ (cols : List Column) (P : List Value → Type 0) (K : Key → Type 0) (
         let g : Grown = hand_out leaf_of_rows (first_key cols) claimed ps (with_sheet p (leaf_of_rows p0) s) in
         let few : length ps ≤ r = omega (arith, budget, hand_claims leaf_of_rows (first_key cols) claimed ps (with_sheet p (leaf_of_rows p0) s)) in
         let h : IsHanded leaf_of_rows (first_key cols) claimed ps (with_sheet p (leaf_of_rows p0) s) (hand_out leaf_of_rows (first_key cols) claimed ps (with_sheet p (leaf_of_rows p0) s)) =
-            handed leaf_of_rows (first_key cols) claimed ps (with_sheet p (leaf_of_rows p0) s) (λ q. omega (arith, free.once q, claimed_fewer claimed s.claims (length ps) r q few)) in
+        handed leaf_of_rows (first_key cols) claimed ps (with_sheet p (leaf_of_rows p0) s) (λ q. omega (arith, free.once q, claimed_fewer claimed s.claims (length ps) r q few)) in
         let all : p0 ++ joined ps ≡ rows_in_order cols New = ap joined (sym is) ∙ joined-fill row_size 8096 8096 (rows_in_order cols New) in
         let each : Each P (rows_in_order cols New) = order_each P cols New new_each in
         let sizes : Each (λ r. row_size r ≤ 8096) (rows_in_order cols New) = size_each (rows_in_order cols New) each in

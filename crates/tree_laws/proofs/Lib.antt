@@ -15,3 +15,6 @@ pub mod LeafRows
 pub mod Sound
 pub mod PartsFull
 pub mod LeafStep
+pub mod InnerLay
+pub mod InnerStep
+pub mod PutBelow
