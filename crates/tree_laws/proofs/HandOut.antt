@@ -43,6 +43,12 @@ targets_of claimed (x ∷ es) a (suc k) e t =
     let rest : map (λ e. e.page) es ≡ claimed_from claimed (a + 1) k = cc in
     (subst IsTarget (sym here) (t a (omega arith) (omega arith)), targets_of claimed es (a + 1) k rest (λ i low high. t i (omega (arith, low)) (omega (arith, high))))
 
+pub length_claimed : (claimed : ℕ → PageId) (es : List Entry) (a k : ℕ) → map (λ e. e.page) es ≡ claimed_from claimed a k → length es ≡ k
+length_claimed claimed [] a zero e = refl
+length_claimed claimed [] a (suc k) e = absurd (cc)
+length_claimed claimed (x ∷ es) a zero e = absurd (cc)
+length_claimed claimed (x ∷ es) a (suc k) e = let rest : map (λ e. e.page) es ≡ claimed_from claimed (a + 1) k = cc in ap suc (length_claimed claimed es (a + 1) k rest)
+
 pub hand_claims : {X : Type 0} (make : List X → Sheet) (least : List X → Option Key) (claimed : ℕ → PageId) (parts : List (List X)) (s : Stand) → (hand_out make least claimed parts s).stand.claims ≡ s.claims + length parts
 hand_claims make least claimed [] s = omega arith
 hand_claims make least claimed (part ∷ parts) s = let next : (s.claims + 1) + length parts ≡ s.claims + suc (length parts) = omega arith in hand_claims make least claimed parts (claim claimed (make part) s) ∙ next

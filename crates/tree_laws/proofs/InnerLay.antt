@@ -20,9 +20,9 @@ use Rattle.tree_laws.specs.Sheets.{Entry, Sheet, Stand, Grown, slots_in, fits, s
 use Rattle.tree_laws.specs.Sheets.Sheet.{Rows, Inner}
 use Rattle.tree_laws.specs.Trees.{entries_at, headless, marks_of, inside, rows_of, pages_of}
 use Rattle.tree_laws.proofs.EntryOrder.{Rises, rises-left, rises-right, risen_is}
-use Rattle.tree_laws.proofs.HandOut.{claimed_from, claimed_fewer, targets_of, hand_claims, AreMade, IsHanded, handed}
+use Rattle.tree_laws.proofs.HandOut.{claimed_from, claimed_fewer, targets_of, length_claimed, hand_claims, AreMade, IsHanded, handed}
 use Rattle.tree_laws.proofs.Lists.{Each, each-left, each-right, each-append, each-map, flat-append}
-use Rattle.tree_laws.proofs.PartLemmas.{joined-fill, fit-fill, fit-whole}
+use Rattle.tree_laws.proofs.PartLemmas.{joined-fill, fit-fill, fit-whole, fill-small}
 use Rattle.tree_laws.proofs.PartsFull.{all_full, some_part}
 use Rattle.tree_laws.proofs.Sound.{AreRules, HasLeast, ArePart, HasSome, IsEntry, LeastIs, IsNode, IsSound, sounds-same}
 use Rattle.tree_laws.proofs.Times.{times, times-append, times_here, times_first, set_same, set_other, AgreeOn, Below, marks-same, inside-same, headless-below, pages-same, rows-same}
@@ -73,18 +73,21 @@ used_entries (e ∷ es) = omega (arith, used_entries es)
 fits_entries : (n : ℕ) (es : List Entry) → total entry_size es ≤ 8090 → FitsPage (slots_in (inner_of n es))
 fits_entries n es h = record { small = omega (arith, used_entries es, h, length-number 4 n); last = full_cons (number 4 n) (map entry_bytes (map Some es)) (number_some n) (last_entries es) }
 
-size_of : (cols : List Column) (P : List Value → Type 0) (K : Key → Type 0) → AreRules cols P K → (e : Entry) → IsEntry K e → entry_size e ≤ 8090
+pub size_of : (cols : List Column) (P : List Value → Type 0) (K : Key → Type 0) → AreRules cols P K → (e : Entry) → IsEntry K e → entry_size e ≤ 907
 size_of cols P K rules e h = by e.least h.least
   where
-    by : (o : Option Key) → LeastIs K o → length (address e.page ++ spelled_key o) + 2 ≤ 8090
+    by : (o : Option Key) → LeastIs K o → length (address e.page ++ spelled_key o) + 2 ≤ 907
     by None l = omega (arith, length-append (address e.page) (spelled_key None), address_length e.page)
     by (Some k) l = omega (arith, length-append (address e.page) (spelled_key (Some k)), address_length e.page, rules.short k l)
 
 -- PARTS
 
-small_entries : (es : List Entry) → Each (λ e. entry_size e ≤ 8090) es → AreSmall entry_size 8090 es
-small_entries [] h = tt
-small_entries (e ∷ es) h = (h.0, small_entries es h.1)
+small_entries : (most : ℕ) (es : List Entry) → Each (λ e. entry_size e ≤ most) es → AreSmall entry_size most es
+small_entries most [] h = tt
+small_entries most (e ∷ es) h = (h.0, small_entries most es h.1)
+
+wider : (es : List Entry) → Each (λ e. entry_size e ≤ 907) es → Each (λ e. entry_size e ≤ 8090) es
+wider es h = each-map (λ e. entry_size e ≤ 907) (λ e. entry_size e ≤ 8090) es (λ e s. omega (arith, s)) h
 
 abbrev Es : Type 0
 Es = List Entry
@@ -147,6 +150,7 @@ module _ (cols : List Column) (P : List Value → Type 0) (K : Key → Type 0) (
     pub some : HasSome n all
     pub sound : Each (λ e. IsSound P K t.sheets n e.least e.page) all
     pub last : LastIsFull (slots_in (Inner (suc n) es))
+    pub total : total entry_size all ≤ 9904
     pub once : (q : PageId) → times q (p ∷ []) + times q (Below t.sheets n all) + times q (claimed_from claimed t.claims r) ≤ 1
     pub targets : (i : ℕ) → t.claims ≤ i → i < t.claims + r → IsTarget (claimed i)
 
@@ -154,6 +158,7 @@ module _ (cols : List Column) (P : List Value → Type 0) (K : Key → Type 0) (
   pub record IsLaid (g : Grown) : Type 0 where
     pub used : ℕ
     pub claims : g.stand.claims ≡ t.claims + used
+    pub few : length g.more ≤ 2
     pub sound : IsSound P K g.stand.sheets (suc n) least p
     pub new : Each (λ e. IsEntry K e × HasLeast e × IsSound P K g.stand.sheets (suc n) e.least e.page) g.more
     pub marks : inside cols g.stand.sheets (suc n) p ++ flat_map (marks_of (inside cols g.stand.sheets (suc n))) g.more ≡ flat_map (marks_of (inside cols t.sheets n)) (headless all)
@@ -203,6 +208,7 @@ module _ (cols : List Column) (P : List Value → Type 0) (K : Key → Type 0) (
         record {
           used = 0;
           claims = omega arith;
+          few = omega arith;
           sound = subst (λ (x : Sheet). IsNode K n least x (λ e. IsSound P K (set_at t.sheets p (Inner (suc n) es)) n e.least e.page)) (sym at) node;
           new = tt;
           marks = append-nil (inside cols (set_at t.sheets p (Inner (suc n) es)) (suc n) p) ∙ ap (λ (l : List Entry). flat_map (marks_of (inside cols (set_at t.sheets p (Inner (suc n) es)) n)) (headless l)) entries ∙ same_marks (set_at t.sheets p (Inner (suc n) es)) agree;
@@ -272,8 +278,10 @@ module _ (cols : List Column) (P : List Value → Type 0) (K : Key → Type 0) (
         handed (inner_of (suc n)) first_least claimed ps (with_sheet p (inner_of (suc n) p0) t) (λ q. omega (arith, h.once q, claimed_fewer claimed t.claims (length ps) r q few)) in
         let whole : fill entry_size 8090 8090 all ≡ p0 ∷ ps = ap (fill entry_size 8090 8090) (sym h.are) ∙ is in
         let join : p0 ++ joined ps ≡ all = ap joined (sym whole) ∙ joined-fill entry_size 8090 8090 all in
-        let sizes : Each (λ e. entry_size e ≤ 8090) all = each-map (IsEntry K) (λ e. entry_size e ≤ 8090) all (size_of cols P K rules) h.each in
-        let fit : Fit entry_size 8090 (p0 ∷ ps) = subst (Fit entry_size 8090) whole (fit-whole entry_size 8090 (fill entry_size 8090 8090 all) (fit-fill entry_size 8090 8090 all (small_entries all sizes))) in
+        let sizes7 : Each (λ e. entry_size e ≤ 907) all = each-map (IsEntry K) (λ e. entry_size e ≤ 907) all (size_of cols P K rules) h.each in
+        let sizes : Each (λ e. entry_size e ≤ 8090) all = wider all sizes7 in
+        let two : length (fill entry_size 8090 8090 all) ≤ 2 = fill-small entry_size 8090 907 8090 all (omega arith) (small_entries 907 all sizes7) (omega (arith, h.total)) in
+        let fit : Fit entry_size 8090 (p0 ∷ ps) = subst (Fit entry_size 8090) whole (fit-whole entry_size 8090 (fill entry_size 8090 8090 all) (fit-fill entry_size 8090 8090 all (small_entries 8090 all sizes))) in
         let full = first_or_none all p0 ps sizes whole in
         let rise : Each Rises (p0 ∷ ps) = parts_rise (p0 ∷ ps) (subst Rises (sym join) h.rises) in
         let each : Each (Each (IsEntry K)) (p0 ∷ ps) = parts_each (IsEntry K) (p0 ∷ ps) (subst (Each (IsEntry K)) (sym join) h.each) in
@@ -295,6 +303,7 @@ module _ (cols : List Column) (P : List Value → Type 0) (K : Key → Type 0) (
         record {
           used = length ps;
           claims = d.claims;
+          few = omega (arith, length_claimed claimed g.more t.claims (length ps) d.pages, two, ap (λ (l : List Es). length l) whole);
           sound = subst (λ (y : Sheet). IsNode K n least y (λ e. IsSound P K g.stand.sheets n e.least e.page)) (sym at) node;
           new = made_new g.stand.sheets agree g.more ps d.made (targets_of claimed g.more t.claims (length ps) d.pages (λ i low high. h.targets i low (omega (arith, high, few)))) rise.1 full.1 fits_all.1 each.1 has sounds.1;
           marks = (λ i. flat_map (marks_of (inside cols g.stand.sheets n)) (headless (mine i)) ++ made_marks g.stand.sheets agree g.more ps d.made rise.1 full.1 i)

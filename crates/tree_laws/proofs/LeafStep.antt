@@ -24,15 +24,16 @@ use Rattle.tree_laws.specs.Puts.{placed_row, rows_in_order, row_size, leaf_of_ro
 use Rattle.tree_laws.specs.Sheets.{Entry, Sheet, Stand, Grown, slots_in, fits, leaf_in}
 use Rattle.tree_laws.specs.Sheets.Sheet.{Rows, Inner}
 use Rattle.tree_laws.specs.Trees.{row_mark, marks_of, inside, rows_of, pages_of}
-use Rattle.tree_laws.proofs.HandOut.{claimed_from, claimed_fewer, targets_of, hand_claims, AreMade, IsHanded, handed}
+use Rattle.tree_laws.proofs.HandOut.{claimed_from, claimed_fewer, targets_of, length_claimed, hand_claims, AreMade, IsHanded, handed}
 use Rattle.tree_laws.proofs.KeyOrder.{Below as KeyBelow, upto_of}
-use Rattle.tree_laws.proofs.LeafOrder.{leaf_order}
+use Rattle.tree_laws.proofs.LeafOrder.{leaf_order, marks_are}
 use Rattle.tree_laws.proofs.LeafRows.{to_sorted, from_sorted, with_row_by_keys}
 use Rattle.tree_laws.proofs.Lists.{Each, Precedes, Ascend, each-left, each-right, each-append, each-map, ascend-left, ascend-right, flat-append}
 use Rattle.tree_laws.proofs.MarkLemmas.{ascend-part}
-use Rattle.tree_laws.proofs.PartLemmas.{joined-fill, fit-fill, fit-whole}
+use Rattle.tree_laws.proofs.PartLemmas.{joined-fill, fit-fill, fit-whole, fill-three}
 use Rattle.tree_laws.proofs.PartsFull.{all_full, some_part}
 use Rattle.tree_laws.proofs.Sound.{AreRules, HasLeast, IsEntry, LeastIs, IsLeaf, IsSound, IsFree, IsGrown}
+use Rattle.tree_laws.proofs.Totals.{total_order, total_leaf, total_with}
 use Rattle.tree_laws.proofs.Times.{times, times-append, times_here, times_first, set_same, set_other, Below}
 
 abbrev Rs : Type 0
@@ -311,6 +312,11 @@ module _ (cols : List Column) (P : List Value → Type 0) (K : Key → Type 0) (
         rise_of cols (rows_in_order cols New) (subst Ascend (append-nil (map (row_mark cols) (rows_in_order cols New)))
         (new_order [] [] (subst Ascend (sym (append-nil (inside cols s.sheets 0 p))) asc) tt tt))
 
+    new_total : total row_size (rows_in_order cols New) ≤ 8096 + 8096 + 1
+    new_total =
+        let old : bytes_in (map cell (leaf_in (s.sheets p))) + 2 * length (map cell (leaf_in (s.sheets p))) ≤ 8096 = omega (arith, subst (λ (x : Sheet). used (slots_in x) ≤ 8192) sound.0 sound.1.small) in
+        omega (arith, total_order cols New, total_with cols row (leaf_in (s.sheets p)) (subst Ascend (marks_are cols (leaf_in (s.sheets p))) asc), total_leaf (leaf_in (s.sheets p)), old, rules.small row good)
+
     apart : (q : PageId) → times q (p ∷ []) ≡ 0 → p ≢ q
     apart q none e = let there : 1 ≤ times q (p ∷ []) = subst (λ (x : PageId). 1 ≤ times q (x ∷ [])) (sym e) (times_here q []) in absurd (omega (arith, none, there))
 
@@ -322,6 +328,7 @@ module _ (cols : List Column) (P : List Value → Type 0) (K : Key → Type 0) (
         record {
           used = 0;
           claims = omega arith;
+          few = omega arith;
           sound = subst (IsLeaf P) (sym at) leaf_is;
           new = tt;
           order = λ xs ys a low high. subst (λ (l : List Mark). Ascend (xs ++ (l ++ ys))) (sym (append-nil (inside cols (set_at s.sheets p (Rows New)) 0 p) ∙ ap (λ (x : Sheet). map (row_mark cols) (rows_in_order cols (leaf_in x))) at)) (new_order xs ys a low high);
@@ -349,11 +356,13 @@ module _ (cols : List Column) (P : List Value → Type 0) (K : Key → Type 0) (
         let at : g.stand.sheets p ≡ leaf_of_rows p0 = h.others p none_p ∙ set_same s.sheets p (leaf_of_rows p0) in
         let mine : inside cols g.stand.sheets 0 p ≡ map (row_mark cols) p0 = ap (λ (x : Sheet). map (row_mark cols) (rows_in_order cols (leaf_in x))) at ∙ ap (map (row_mark cols)) (risen_rows cols p0 rise.0) in
         let mine_rows : rows_of cols g.stand.sheets 0 p ≡ p0 = ap (λ (x : Sheet). rows_in_order cols (leaf_in x)) at ∙ risen_rows cols p0 rise.0 in
+        let three : length (fill row_size 8096 8096 (rows_in_order cols New)) ≤ 3 = fill-three row_size 8096 8096 (rows_in_order cols New) new_total in
         let theirs = made_marks cols g.stand.sheets g.more ps h.made rise.1 in
         let theirs_rows = made_rows cols g.stand.sheets g.more ps h.made rise.1 in
         record {
           used = length ps;
           claims = h.claims;
+          few = omega (arith, length_claimed claimed g.more s.claims (length ps) h.pages, three, ap (λ (l : List Rs). length l) is);
           sound = subst (IsLeaf P) (sym at) (leaf_of p0 eaches.0 fits_all.0);
           new = new_pages g.stand.sheets g.more ps h.made (targets_of claimed g.more s.claims (length ps) h.pages (λ i low high. free.targets i low (omega (arith, high, few)))) full.1 eaches.1 fits_all.1;
           order = λ xs ys a low high. subst (λ (l : List Mark). Ascend (xs ++ (l ++ ys))) (λ i. sym mine i ++ sym theirs i)

@@ -18,3 +18,4 @@ pub mod LeafStep
 pub mod InnerLay
 pub mod InnerStep
 pub mod PutBelow
+pub mod Totals

@@ -1,5 +1,5 @@
 -- A row is put below a page of any level: what is there then is sound and in order, with the row and no other change.
-use Rattle.std.proofs.Common.{◌≡◌, ◌≢◌, ◌≤◌, ◌<◌, ◌+◌, ◌-◌, ◌||◌, ℕ, zero, suc, Bool, true, false, cond, List, [], ◌∷◌, ◌++◌, length, map, refl, ap, sym, ◌∙◌, subst, arith, append_assoc, append-nil, ◌⊎◌, inl, inr}
+use Rattle.std.proofs.Common.{◌≡◌, ◌≢◌, ◌≤◌, ◌<◌, ◌+◌, ◌-◌, ◌*◌, ◌||◌, ℕ, zero, suc, Bool, true, false, cond, List, [], ◌∷◌, ◌++◌, length, map, refl, ap, sym, ◌∙◌, subst, arith, append_assoc, append-nil, ◌⊎◌, inl, inr}
 use Rattle.std.specs.Prelude.{Option, None, Some, is_some}
 use Rattle.std.specs.List.{flat_map}
 use Rattle.std.specs.FinMap as finite
@@ -7,7 +7,8 @@ use Rattle.page_base.specs.declared.column.Column.{Column}
 use Rattle.page_base.specs.declared.numbers.PageId.{PageId}
 use Rattle.page_base.specs.declared.value.Value.{Value}
 use Rattle.page_base.specs.Pages.{set_at}
-use Rattle.page_fmt.specs.Spelling.{LastIsFull}
+use Rattle.page_fmt.specs.Spelling.{used, row_bytes as bytes_in, LastIsFull}
+use Rattle.row_fmt.proofs.Numbers.{length-number}
 use Rattle.plain_model.specs.Tables.{Rows as Map, key_of}
 use Rattle.table_walk.specs.Addresses.{IsTarget}
 use Rattle.table_walk.specs.Leaves.{ByKeys}
@@ -16,13 +17,15 @@ use Rattle.tree_laws.specs.Keys.{Key}
 use Rattle.tree_laws.specs.Kids.{is_upto}
 use Rattle.tree_laws.specs.Order.{Mark, own}
 use Rattle.tree_laws.specs.Order.Mark.{Least, Row}
-use Rattle.tree_laws.specs.Puts.{rows_in_order, row_size, in_key_order, put_entries, chosen_entry, entry_for, through, rise, rise_with, to_inner, put_below, claim, hand_out, leaf_of_rows}
-use Rattle.tree_laws.specs.Sheets.{Entry, Sheet, Stand, Grown, slots_in, leaf_in, entries_in}
+use Rattle.tree_laws.specs.Parts.{total}
+use Rattle.tree_laws.specs.Puts.{entry_size, rows_in_order, row_size, in_key_order, put_entries, chosen_entry, entry_for, through, rise, rise_with, to_inner, put_below, claim, hand_out, leaf_of_rows}
+use Rattle.tree_laws.specs.Sheets.{Entry, Sheet, Stand, Grown, entry_bytes, slots_in, leaf_in, entries_in}
 use Rattle.tree_laws.specs.Sheets.Sheet.{Rows, Inner}
 use Rattle.tree_laws.specs.Trees.{entries_at, headless, row_mark, marks_of, inside, rows_of, pages_of}
 use Rattle.tree_laws.proofs.EntryOrder.{Before, Rises, put_between}
 use Rattle.tree_laws.proofs.HandOut.{claimed_from, times_claimed, claimed_fewer}
-use Rattle.tree_laws.proofs.InnerLay.{AreEntries, IsLaid, inner_laid, inner_claims, last_inner}
+use Rattle.tree_laws.proofs.InnerLay.{AreEntries, IsLaid, inner_laid, inner_claims, last_inner, size_of}
+use Rattle.tree_laws.proofs.Totals.{total_slots, total_puts}
 use Rattle.tree_laws.proofs.InnerStep.{IsBehind, IsChosen, chosen_is, before_row, after_row, front, split_marks, rises_of, OtherMark, OtherRow, other_rows, other_many, none_there, low_other, high_other, no_more}
 use Rattle.tree_laws.proofs.KeyOrder.{Below as KeyBelow, Upto, above_of}
 use Rattle.tree_laws.proofs.LeafStep.{leaf_of, leaf_grown}
@@ -175,10 +178,19 @@ module _ (cols : List Column) (P : List Value → Type 0) (K : Key → Type 0) (
     -- THE PAGE GETS THE ENTRIES
 
     -- the entries of new pages that the page gets, and its own among them
-    finish : (g : Grown) (all : Es) (m : IsMid n s least p g.stand all) → in_key_order (put_entries g.more (entries_in (s.sheets p))) ≡ all → Rises all → (rise claimed p (suc n) (entries_in (s.sheets p)) g).stand.claims ≤ s.claims + r
+    finish : (g : Grown) (all : Es) (m : IsMid n s least p g.stand all) → in_key_order (put_entries g.more (entries_in (s.sheets p))) ≡ all → Rises all → Each (IsEntry K) g.more → length g.more ≤ 2 → (rise claimed p (suc n) (entries_in (s.sheets p)) g).stand.claims ≤ s.claims + r
         → IsGrown P K cols claimed row (suc n) s least p (rise claimed p (suc n) (entries_in (s.sheets p)) g)
-    finish g all m are rises budget = by g.more are budget
+    finish g all m are rises fresh fewer budget = by g.more are fresh fewer budget
       where
+        old_room : bytes_in (map entry_bytes (entries_in (s.sheets p))) + 2 * length (map entry_bytes (entries_in (s.sheets p))) ≤ 8090
+        old_room = omega (arith, subst (λ (x : Sheet). used (slots_in x) ≤ 8192) sound.0 sound.1.small, length-number 4 (suc n))
+
+        room_of : (more : Es) → Each (IsEntry K) more → length more ≤ 2 → total entry_size more ≤ 1814
+        room_of [] h f = omega arith
+        room_of (a ∷ []) h f = omega (arith, size_of cols P K rules a h.0)
+        room_of (a ∷ b ∷ []) h f = omega (arith, size_of cols P K rules a h.0, size_of cols P K rules b h.1.0)
+        room_of (a ∷ b ∷ c ∷ more) h f = absurd (omega (arith, f))
+
         none_p : times p (Below s.sheets n (entries_at s.sheets p)) ≡ 0
         none_p = omega (arith, free.once p, times_first p (Below s.sheets n (entries_at s.sheets p)))
 
@@ -193,6 +205,7 @@ module _ (cols : List Column) (P : List Value → Type 0) (K : Key → Type 0) (
             record {
               used = m.used;
               claims = m.claims;
+              few = omega arith;
               sound = subst (λ (x : Sheet). IsNode K n least x (λ e. IsSound P K g.stand.sheets n e.least e.page)) (sym at) node;
               new = tt;
               order = λ xs ys a low high. subst (λ (l : List Mark). Ascend (xs ++ (l ++ ys))) (sym (append-nil (inside cols g.stand.sheets (suc n) p) ∙ ap (λ (l : Es). flat_map (marks_of (inside cols g.stand.sheets n)) (headless l)) entries)) (m.order xs ys a low high);
@@ -201,9 +214,9 @@ module _ (cols : List Column) (P : List Value → Type 0) (K : Key → Type 0) (
               others = λ q none claims. m.others q (omega (arith, none)) claims;
             }
 
-        laid : (more : Es) → in_key_order (put_entries more (entries_in (s.sheets p))) ≡ all → (to_inner claimed p (suc n) (put_entries more (entries_in (s.sheets p))) g.stand).stand.claims ≤ s.claims + r
+        laid : (more : Es) → in_key_order (put_entries more (entries_in (s.sheets p))) ≡ all → Each (IsEntry K) more → length more ≤ 2 → (to_inner claimed p (suc n) (put_entries more (entries_in (s.sheets p))) g.stand).stand.claims ≤ s.claims + r
             → IsGrown P K cols claimed row (suc n) s least p (to_inner claimed p (suc n) (put_entries more (entries_in (s.sheets p))) g.stand)
-        laid more are budget =
+        laid more are fresh fewer budget =
             let es : List (Option Entry) = put_entries more (entries_in (s.sheets p)) in
             let few : m.used ≤ r = omega (arith, budget, m.claims, inner_claims cols P K rules claimed n least p g.stand all es) in
             let left : ℕ = r - m.used in
@@ -218,6 +231,7 @@ module _ (cols : List Column) (P : List Value → Type 0) (K : Key → Type 0) (
               some = m.some;
               sound = m.sound;
               last = last_inner (suc n) more (entries_in (s.sheets p)) (subst (λ (x : Sheet). LastIsFull (slots_in x)) sound.0 sound.1.last);
+              total = omega (arith, ap (total entry_size) are, total_puts more (entries_in (s.sheets p)), total_slots (entries_in (s.sheets p)), old_room, room_of more fresh fewer);
               once = λ q. omega (arith, m.pages q, free.once q, count q);
               targets = λ i low high. free.targets i (omega (arith, low, m.claims)) (omega (arith, high, m.claims, few));
             } in
@@ -227,6 +241,7 @@ module _ (cols : List Column) (P : List Value → Type 0) (K : Key → Type 0) (
             record {
               used = m.used + d.used;
               claims = omega (arith, d.claims, m.claims);
+              few = d.few;
               sound = d.sound;
               new = d.new;
               order = λ xs ys a low high. subst (λ (l : List Mark). Ascend (xs ++ (l ++ ys))) (sym d.marks) (m.order xs ys a low high);
@@ -235,10 +250,10 @@ module _ (cols : List Column) (P : List Value → Type 0) (K : Key → Type 0) (
               others = λ q none claims. d.others q (omega (arith, none)) (omega (arith, claims, sum q)) ∙ m.others q (omega (arith, none)) (omega (arith, claims, sum q));
             }
 
-        by : (more : Es) → in_key_order (put_entries more (entries_in (s.sheets p))) ≡ all → (rise_with claimed p (suc n) (entries_in (s.sheets p)) more (record { stand = g.stand; more = more })).stand.claims ≤ s.claims + r
+        by : (more : Es) → in_key_order (put_entries more (entries_in (s.sheets p))) ≡ all → Each (IsEntry K) more → length more ≤ 2 → (rise_with claimed p (suc n) (entries_in (s.sheets p)) more (record { stand = g.stand; more = more })).stand.claims ≤ s.claims + r
             → IsGrown P K cols claimed row (suc n) s least p (rise_with claimed p (suc n) (entries_in (s.sheets p)) more (record { stand = g.stand; more = more }))
-        by [] are b = same are b
-        by (e ∷ more) are b = laid (e ∷ more) are b
+        by [] are fresh fewer b = same are b
+        by (e ∷ more) are fresh fewer b = laid (e ∷ more) are fresh fewer b
 
     -- THE CHILD FOR THE KEY
 
@@ -391,7 +406,8 @@ module _ (cols : List Column) (P : List Value → Type 0) (K : Key → Type 0) (
             let assoc : (zs : Es) → (before ++ ch ∷ []) ++ zs ≡ before ++ ch ∷ zs = λ zs. append_assoc before (ch ∷ []) zs in
             let put : in_key_order (put_entries g.more (entries_in (s.sheets p))) ≡ (before ++ ch ∷ []) ++ (g.more ++ after) =
             put_between (entries_in (s.sheets p)) (before ++ ch ∷ []) g.more after (are ∙ sym (assoc after)) (subst Rises (sym (assoc (g.more ++ after))) rises) in
-            finish g (before ++ ch ∷ (g.more ++ after)) mid_of (put ∙ assoc (g.more ++ after)) rises budget2
+            finish g (before ++ ch ∷ (g.more ++ after)) mid_of (put ∙ assoc (g.more ++ after)) rises
+            (each-map (λ e. IsEntry K e × HasLeast e × IsSound P K g.stand.sheets n e.least e.page) (IsEntry K) g.more (λ e h. h.0) G.new) G.few budget2
 
   -- THE FIRST LEAF
 
@@ -435,7 +451,7 @@ module _ (cols : List Column) (P : List Value → Type 0) (K : Key → Type 0) (
     first_grown : (rise claimed p 1 (entries_in (s.sheets p)) leafed).stand.claims ≤ s.claims + r → IsGrown P K cols claimed row 1 s least p (rise claimed p 1 (entries_in (s.sheets p)) leafed)
     first_grown budget =
         let b : leafed.stand.claims ≤ s.claims + r = omega (arith, budget, rise_claims 0 s least p r sound asc upto free leafed) in
-        finish 0 s least p r sound asc upto free leafed (one ∷ []) (mid_first b) (put_between (entries_in (s.sheets p)) [] (one ∷ []) [] none (tt, tt)) (tt, tt) budget
+        finish 0 s least p r sound asc upto free leafed (one ∷ []) (mid_first b) (put_between (entries_in (s.sheets p)) [] (one ∷ []) [] none (tt, tt)) (tt, tt) (mid_first b).each (omega arith) budget
 
   -- THE INDUCTION ON THE LEVEL
 

@@ -28,7 +28,7 @@ pub record AreRules (cols : List Column) (P : List Value → Type 0) (K : Key �
   pub small : (row : List Value) → P row → row_size row ≤ 8096
   pub some : (row : List Value) → P row → row_bytes row ≢ []
   pub key : (row : List Value) → P row → K (key_of cols row)
-  pub short : (k : Key) → K k → length (spelled_key (Some k)) ≤ 8083
+  pub short : (k : Key) → K k → length (spelled_key (Some k)) ≤ 900
 
 abbrev pub HasLeast : Entry → Type 0
 HasLeast e = is_some e.least ≡ true
@@ -92,6 +92,7 @@ module _ (P : List Value → Type 0) (K : Key → Type 0) where
   pub record IsGrown (cols : List Column) (claimed : ℕ → PageId) (row : List Value) (n : ℕ) (s : Stand) (least : Option Key) (p : PageId) (g : Grown) : Type 0 where
     pub used : ℕ
     pub claims : g.stand.claims ≡ s.claims + used
+    pub few : length g.more ≤ 2
     pub sound : IsSound g.stand.sheets n least p
     pub new : Each (λ e. IsEntry K e × HasLeast e × IsSound g.stand.sheets n e.least e.page) g.more
     pub order : (xs ys : List Mark) → Ascend (xs ++ (inside cols s.sheets n p ++ ys)) → Each (λ m. Precedes m (Row (key_of cols row))) xs → Each (Precedes (Row (key_of cols row))) ys

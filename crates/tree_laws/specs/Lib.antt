@@ -4,5 +4,6 @@ pub mod Order
 pub mod LookUps
 pub mod Parts
 pub mod Sheets
+pub mod Laying
 pub mod Puts
 pub mod Trees
