@@ -13,3 +13,4 @@ pub mod EditLemmas
 pub mod FillSlots
 pub mod FillLemmas
 pub mod ClaimLemmas
+pub mod LeafLemmas

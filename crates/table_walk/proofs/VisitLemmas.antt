@@ -19,7 +19,7 @@ use Rattle.table_walk.specs.Answers.{IsAt, IsOn, asks, asked}
 use Rattle.table_walk.specs.Sought.{knows, kept, IsSought}
 use Rattle.table_walk.specs.Walk.{Kids, IsSeenWalk}
 use Rattle.table_walk.specs.Tables.{IsBadRow, Gathers, AreRows, IsSomeRow, IsNoRow, IsNoRowOf, full, cells, cells_of, is_leaf}
-use Rattle.table_walk.proofs.RowsLemmas.{Key, same_key, get_put, get_none, kept-empty}
+use Rattle.table_walk.proofs.RowsLemmas.{Key, same_key, itself, get_put, get_none, get_kept, kept-empty}
 use Rattle.table_walk.proofs.GatherLemmas.{AreRows-append}
 use Rattle.table_walk.proofs.WalkLemmas.{page_at-place, one_walk}
 
@@ -56,6 +56,15 @@ key_more set new keys i k v q so lt is e =
         or_false : (b : Bool) → (b || false) ≡ b
         or_false true = refl
         or_false false = refl
+
+-- a key that was put is known
+pub one_known : (set old : Rows) (q k v : Key) → set ≡ finite.insert old k v → k ≡ q → knows (Some set) q ≡ true
+one_known set old q k v e f =
+    ap (λ (m : Rows). finite.contains_key m q) e ∙ ap is_there (get_put old k v q) ∙ ap (λ (b : Bool). is_there (cond b (Some v) (finite.get old q))) (ap (same_key q) f ∙ itself q)
+  where
+    is_there : Option Key → Bool
+    is_there None = false
+    is_there (Some x) = true
 
 -- what is asked for, told by either
 pub asked_is : (keys : Option Rows) (find : Find) (all : Rows) → ((q : Key) → knows keys q ≡ asks find q) → kept keys all ≡ asked find all
@@ -146,3 +155,10 @@ pub walk_rows : (kids : Kids) (cols : List Column) (keys : Option Rows) (find : 
     → same ≡ done → ((q : Key) → knows keys q ≡ asks find q) → IsSought cols keys (cells (look seen) same) rows → list ≡ finite.values rows → Gathers cols (cells (look seen) other) all → list ≡ finite.values (asked find all)
 walk_rows kids cols keys find seen start done same other rows all list w v is h sought e g =
     e ∙ ap (λ (m : Rows). finite.values m) (sought all (subst (λ vs. Gathers cols (cells (look seen) vs) all) (sym (is ∙ one_walk kids seen start done other w v)) g) ∙ asked_is keys find all h)
+
+-- the row of one key
+pub walk_row : (kids : Kids) (cols : List Column) (keys : Option Rows) (key : Key) (seen : List Looked) (start : Visit) (done same other : List Visit) (rows all : Rows) (found : Option Key) → IsSeenWalk kids seen start done [] → IsSeenWalk kids seen start other []
+    → same ≡ done → knows keys key ≡ true → IsSought cols keys (cells (look seen) same) rows → found ≡ finite.get rows key → Gathers cols (cells (look seen) other) all → found ≡ finite.get all key
+walk_row kids cols keys key seen start done same other rows all found w v is known sought e g =
+    e ∙ ap (λ (m : Rows). finite.get m key) (sought all (subst (λ vs. Gathers cols (cells (look seen) vs) all) (sym (is ∙ one_walk kids seen start done other w v)) g))
+    ∙ get_kept keys all key ∙ ap (λ (b : Bool). cond b (finite.get all key) None) known

@@ -7,3 +7,4 @@ pub mod Plans
 pub mod Index
 pub mod Differences
 pub mod Filling
+pub mod Leaves

@@ -21,8 +21,8 @@ fn key_cell(alloc: Global, cols: &[Column], row: &[Value], place: usize) -> Resu
     Ok(Value::Null)
 }
 
-// How many columns the key has.
-fn key_size(cols: &[Column]) -> usize
+/// How many columns the key has. Takes no memory.
+pub fn key_size(cols: &[Column]) -> usize
     ensures { result ≡ key_size cols.now }
 {
     cols.iter().filter(|column| 1 <= column.key).count()

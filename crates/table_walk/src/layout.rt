@@ -4,13 +4,16 @@ ghost use Rattle.std.specs.Prelude.{◌≡◌, ◌<◌, [], IfOk, IfErr, MatchOp
 ghost use Rattle.page_fmt.specs.Seen.{Looked};
 ghost use Rattle.table_walk.specs.Walk.{Kids, IsSeenWalk, Lacks, IsBad};
 ghost use Rattle.table_walk.specs.Answers.{Tells, IsAt, IsOn};
+ghost use Rattle.table_walk.specs.Index.{Indexes};
 
 use crate::find::Wants;
 use crate::index::{page_index, place};
 use crate::refusal::SeenRefusal;
 use crate::visit::{Visit, is_leaf};
+use page_base::PageId;
 use page_fmt::Seen;
 use std::alloc::Global;
+use std::collections::BTreeMap;
 
 /// Which pages a page of a table names.
 pub trait Layout {
@@ -36,23 +39,25 @@ pub struct Walked {
     pub lacks: Option<Visit>,
 }
 
-/// Walks over what was read. Damaged exactly names a slot that is no address, or that of a page already come to.
-pub fn walk<L: Layout>(
+/// Walks over what was read, of which `places` has the place of each page. Damaged exactly names a slot that is no
+/// address, or that of a page already come to.
+pub fn walk_with<L: Layout>(
     alloc: Global,
     layout: &L,
     start: Visit,
+    places: &BTreeMap<PageId, usize>,
     seen: &Seen,
 ) -> Result<Walked, SeenRefusal>
+    requires { Indexes places.now seen.now }
     ensures done { IfOk result (λ w. MatchOption w.lacks (IsSeenWalk (L.kids layout.now) seen.now start w.done.items []) (λ v. Lacks (L.kids layout.now) seen.now start v)) }
     ensures bad { IfErr result (IsAt (IsBad (L.kids layout.now) seen.now start)) }
 {
-    let places = page_index(alloc, seen)?;
     let mut done = Vec::new(alloc);
     let mut marked = vec![in alloc; false; seen.len()]?;
     let mut todo = Vec::new(alloc);
     todo.push(start)?;
     while let Some(visit) = todo.pop() {
-        let Some(i) = place(&places, seen, visit.page) else {
+        let Some(i) = place(places, seen, visit.page) else {
             return Ok(Walked {
                 done,
                 lacks: Some(visit),
@@ -71,6 +76,20 @@ pub fn walk<L: Layout>(
         todo.append(&mut next)?;
     }
     Ok(Walked { done, lacks: None })
+}
+
+/// Walks over what was read. Damaged exactly names a slot that is no address, or that of a page already come to.
+pub fn walk<L: Layout>(
+    alloc: Global,
+    layout: &L,
+    start: Visit,
+    seen: &Seen,
+) -> Result<Walked, SeenRefusal>
+    ensures done { IfOk result (λ w. MatchOption w.lacks (IsSeenWalk (L.kids layout.now) seen.now start w.done.items []) (λ v. Lacks (L.kids layout.now) seen.now start v)) }
+    ensures bad { IfErr result (IsAt (IsBad (L.kids layout.now) seen.now start)) }
+{
+    let places = page_index(alloc, seen)?;
+    walk_with(alloc, layout, start, &places, seen)
 }
 
 /// The next page to read, and whether it holds rows; or that all was read.

@@ -53,6 +53,14 @@ impl RowMap {
         Ok(())
     }
 
+    /// Takes a key's row out, and gives it. Takes no memory.
+    pub fn take(&mut self, key: &Row) -> Option<Row>
+        ensures row { result ≡ finite.get self.old key.now }
+        ensures new { self.new ≡ finite.remove self.old key.now }
+    {
+        self.rows.remove(key)
+    }
+
     /// All rows, in ascending order of their keys.
     pub fn into_list(self, alloc: Global) -> Result<RowList, NoMemory>
         ensures { IfOk result (λ rows. rows ≡ finite.values self) }

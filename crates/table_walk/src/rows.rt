@@ -1,6 +1,6 @@
 //! The rows of a table whose pages were all read.
 
-ghost use Rattle.std.specs.Prelude.{List, ℕ, ◌≡◌, ◌<◌, ◌++◌, [], IfOk, OnOk, IfErr, length, slice_index_or};
+ghost use Rattle.std.specs.Prelude.{List, ℕ, true, ◌≡◌, ◌<◌, ◌++◌, [], IfOk, OnOk, IfErr, length, slice_index_or};
 ghost use Rattle.std.specs.FinMap as finite;
 ghost use Rattle.std.specs.List.{Any, list_any};
 ghost use Rattle.std.specs.Ordering.{eq_by_cmp};
@@ -19,7 +19,7 @@ ghost use Rattle.table_walk.specs.Sought.{knows, with_asked, IsSought};
 use crate::find::Find;
 use crate::index::{page_index, place};
 use crate::key::{copy_row, key_of};
-use crate::layout::{Layout, walk};
+use crate::layout::{Layout, walk, walk_with};
 use crate::refusal::SeenRefusal;
 use crate::row_map::RowMap;
 use crate::visit::{Visit, is_leaf};
@@ -189,4 +189,36 @@ pub fn rows_of<L: Layout>(
     let places = page_index(alloc, seen)?;
     let rows = gathered(alloc, cols, &keys, walked.done.as_slice(), &places, seen)?;
     Ok(rows.into_list(alloc)?)
+}
+
+// One key, as those that are asked for.
+fn one_key(alloc: Global, key: &Row) -> Result<Option<RowMap>, NoMemory>
+    ensures { IfOk result (λ keys. knows keys key.now ≡ true) }
+{
+    let mut set = RowMap::new(alloc);
+    set.put(copy_row(alloc, key)?, Row::new(alloc))?;
+    Ok(Some(set))
+}
+
+/// The row of a key, over pages that were all read, of which `places` has the place of each; a layout may name only the
+/// pages on which that row may stand. Damaged only where a slot of a page of rows is no row.
+pub fn row_of<L: Layout>(
+    alloc: Global,
+    layout: &L,
+    start: Visit,
+    cols: &Columns,
+    key: &Row,
+    places: &BTreeMap<PageId, usize>,
+    seen: &Seen,
+) -> Result<Option<Row>, SeenRefusal>
+    requires places { Indexes places.now seen.now }
+    requires done { IsDone (L.kids layout.now) seen.now start }
+    ensures row { IfOk result (λ r. (done : List Visit) (all : Rows) → IsSeenWalk (L.kids layout.now) seen.now start done [] → Gathers cols.now (cells (look seen.now) done) all → r ≡ finite.get all key.now) }
+    ensures are { OnOk result ((done : List Visit) → IsSeenWalk (L.kids layout.now) seen.now start done [] → AreRows cols.now (cells (look seen.now) done)) }
+    ensures bad { IfErr result (IsAt (IsBadRow (L.kids layout.now) cols.now seen.now start)) }
+{
+    let walked = walk_with(alloc, layout, start, places, seen)?;
+    let keys = one_key(alloc, key)?;
+    let mut rows = gathered(alloc, cols, &keys, walked.done.as_slice(), places, seen)?;
+    Ok(rows.take(key))
 }

@@ -6,7 +6,7 @@ use Rattle.table_walk.specs.Walk.{IsBad}
 use Rattle.table_walk.specs.Answers.{IsAt}
 use Rattle.table_walk.proofs.Exits.{handed_on}
 use Rattle.table_walk.proofs.WalkLemmas.{unmarked-set, stack_next, stack_more, step, on_bad}
-use Rattle.table_walk.proofs.layout.walk.Goals as goal
+use Rattle.table_walk.proofs.layout.walk_with.Goals as goal
 
 pub returns-in_err-next-clause-bad : goal.returns-in_err-next-clause-bad
 returns-in_err-next-clause-bad g c =

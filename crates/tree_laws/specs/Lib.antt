@@ -1,0 +1,9 @@
+pub mod Keys
+pub mod Kids
+pub mod Order
+pub mod LookUps
+pub mod Parts
+pub mod Sheets
+pub mod Laying
+pub mod Puts
+pub mod Trees

@@ -1,0 +1,39 @@
+//! What trees of pages keep, as functions whose contracts say it.
+
+ghost use Rattle.std.specs.Prelude.{◌≡◌, ◌≤◌, ◌+◌, ◌*◌, ◌++◌, [], true, ℕ, Bool, List, Option, Some, All, length};
+ghost use Rattle.std.specs.FinMap as finite;
+ghost use Rattle.page_base.specs.declared.column.Column.{Column};
+ghost use Rattle.page_base.specs.declared.numbers.PageId.{PageId};
+ghost use Rattle.page_fmt.specs.Seen.{SlotsAt};
+ghost use Rattle.plain_model.specs.Tables.{Rows};
+ghost use Rattle.table_walk.specs.declared.visit.Visit.{Visit};
+ghost use Rattle.table_walk.specs.Tables.{Gathers, cells};
+ghost use Rattle.table_walk.specs.Walk.{IsWalk};
+ghost use Rattle.tree_laws.specs.Keys.{Key};
+ghost use Rattle.tree_laws.specs.Kids.{tree_kids, first};
+ghost use Rattle.tree_laws.specs.LookUps.{IsOnePerLevel};
+ghost use Rattle.tree_laws.specs.Order.{RowsAt};
+ghost use Rattle.tree_laws.specs.Parts.{fill, joined, total, AreSmall, Fit};
+
+/// A look-up of one key comes to at most one page of each level, the leaf included.
+pub fn a_look_up_has_one_page_a_level()
+    ensures { (cols : List Column) (at : SlotsAt) (root : PageId) (key : Key) (done rest : List Visit) → IsWalk (tree_kids cols (Some key)) at (first root) done rest → IsOnePerLevel at root (done ++ rest) }
+{}
+
+/// Over pages that are a table, a look-up comes to pages of that table alone.
+pub fn a_look_up_stays_in_its_tree()
+    ensures { (cols : List Column) (at : SlotsAt) (owns : PageId → Bool) (root : PageId) (rows : Rows) (key : Key) (done rest : List Visit) → RowsAt cols at owns root rows → IsWalk (tree_kids cols (Some key)) at (first root) done rest → All (λ v. owns v.page ≡ true) (done ++ rest) }
+{}
+
+/// Over pages that are a table, the row of a key stands on the pages of its look-up, or there is none.
+pub fn a_look_up_finds()
+    ensures { (cols : List Column) (at : SlotsAt) (owns : PageId → Bool) (root : PageId) (rows : Rows) (key : Key) (done : List Visit) → RowsAt cols at owns root rows → IsWalk (tree_kids cols (Some key)) at (first root) done [] → (found : Rows) × Gathers cols (cells at done) found × (finite.get found key ≡ finite.get rows key) }
+{}
+
+/// Things laid in parts stand in them as they were, each part has room, and what overflows by little has few parts.
+pub fn parts_are_filled()
+    ensures joined { (size : Key → ℕ) (all : ℕ) (xs : List Key) → joined (fill size all all xs) ≡ xs }
+    ensures fit { (size : Key → ℕ) (all : ℕ) (xs : List Key) → AreSmall size all xs → Fit size all (fill size all all xs) }
+    ensures three { (size : Key → ℕ) (all : ℕ) (xs : List Key) → AreSmall size all xs → total size xs ≤ 2 * all + 1 → length (fill size all all xs) ≤ 3 }
+    ensures two { (size : Key → ℕ) (all most : ℕ) (xs : List Key) → most ≤ all → AreSmall size most xs → total size xs + most ≤ 2 * all + 1 → length (fill size all all xs) ≤ 2 }
+{}
