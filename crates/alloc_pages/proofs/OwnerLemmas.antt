@@ -1,6 +1,6 @@
 -- Where the owners stand, and whose a page is after one slot was set.
-use Rattle.std.proofs.Common.{inl, inr, ◌≡◌, ◌≢◌, ℕ, ◌+◌, ◌*◌, ◌/◌, ◌%◌, ◌^◌, ◌<◌, ◌≤◌, List, [], length, refl, ap, sym, ◌∙◌, arith}
-use Rattle.std.proofs.lemmas.Bool.{cases_lt}
+use Rattle.std.proofs.Common.{inl, inr, ◌≡◌, ◌≢◌, ◌==◌, cond, ℕ, ◌+◌, ◌*◌, ◌/◌, ◌%◌, ◌^◌, ◌<◌, ◌≤◌, List, [], length, refl, ap, sym, ◌∙◌, arith}
+use Rattle.std.proofs.lemmas.Bool.{cases_lt, cases_Bool, eqb-true}
 use Rattle.std.proofs.lemmas.List.{append-nil, get_or_past}
 use Rattle.byteorder.specs.Endian.{little_bytes, little_number}
 use Rattle.byteorder.specs.Numbers.{little_number-reads_back}
@@ -39,6 +39,14 @@ pub owner_in-owner_bytes : (owner : ℕ) → owner < 2 ^ 32 → owner_in (owner_
 unfolding owner_in owner_bytes
 owner_in-owner_bytes owner lt =
     ap (λ (bytes : List ℕ). little_number 4 bytes) (sym (append-nil (little_bytes 4 owner))) ∙ little_number-reads_back 4 owner [] lt
+
+-- bytes that are no allocation page's are four
+pub owner_in-four : (bytes : List ℕ) → owner_in bytes ≢ 4294967295 → length bytes ≡ 4
+unfolding owner_in
+owner_in-four bytes ne = elim (cases_Bool (length bytes == 4)) [
+  | inl t ↦ eqb-true (length bytes) 4 t
+  | inr f ↦ absurd (ne (ap (λ b. cond b (little_number 4 bytes) 4294967295) f))
+]
 
 -- an empty slot is nobody's free page
 pub owner_in-empty : owner_in [] ≡ 4294967295

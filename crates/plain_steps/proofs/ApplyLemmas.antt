@@ -21,10 +21,12 @@ use Rattle.plain_model.specs.Outcomes.{taken_from}
 use Rattle.plain_model.specs.Inserting.{target_names, new_row, inserted_from}
 use Rattle.plain_model.specs.Changing.{updated_row, deleted_row}
 use Rattle.plain_model.specs.Tables.{Table, Tables, Change, Put, Cut, Add, Remove, with_row, without_key, changed, applied, apply, rows_of}
-use Rattle.plain_model.specs.Meaning.{shape}
+use Rattle.plain_model.specs.Meaning.{change_and_reply, shape}
 use Rattle.plain_model.specs.Statements.{shape_over, data_over, table_named, is_of_rows, needs, is_new, changes_of}
 use Rattle.plain_model.specs.Alone.{answer, or_reply}
 use Rattle.plain_steps.proofs.LockLemmas.{same_bytes, bytes_same}
+pub use Rattle.plain_steps.specs.Changes.{named_by, IsOfRow}
+use Rattle.plain_steps.specs.Changes.{AreOf}
 
 -- A TABLE AMONG TABLES
 
@@ -52,13 +54,6 @@ changed_there tables name q f ne = by (finite.get tables name)
     by : (o : Option Table) → finite.get (changed tables name o f) q ≡ finite.get tables q
     by None = refl
     by (Some t) = inserted tables name (f t) q ∙ ap (λ b. cond b (Some (f t)) (finite.get tables q)) ne
-
--- the table that a change is about
-abbrev pub named_by : Change → List ℕ
-named_by (Put table row) = table
-named_by (Cut table key) = table
-named_by (Add table cols) = table
-named_by (Remove table) = table
 
 -- what a change makes of its own table
 abbrev of_change : Change → Option Table → Option Table
@@ -119,13 +114,6 @@ cols_apply (c ∷ cs) a b q e = cols_apply cs (applied c a) (applied c b) q (eli
 
 -- CHANGES OF ROWS
 
--- a change of a row
-abbrev pub IsOfRow : Change → Type 0
-IsOfRow (Put table row) = Unit {0}
-IsOfRow (Cut table key) = Unit {0}
-IsOfRow (Add table cols) = ⊥
-IsOfRow (Remove table) = ⊥
-
 row_cols : (c : Change) (o : Option Table) → IsOfRow c → option_map (λ (t : Table). t.cols) (of_change c o) ≡ option_map (λ t. t.cols) o
 row_cols (Put table row) None h = refl
 row_cols (Put table row) (Some t) h = refl
@@ -170,6 +158,24 @@ data_in (Update u) t h = all_in (Put u.table) u.table (λ row. (tt, refl)) (take
 data_in (Delete d) t h = all_in (Cut d.table) d.table (λ row. (tt, refl)) (taken_from 1 (map (deleted_row d.filter t.cols) (rows_of t)))
 data_in (Select s) t h = tt
 data_in stmt t h = absurd (let x : false ≡ true = h in cc)
+
+those : (table : List ℕ) (cs : List Change) → AllByRecursion (IsIn table) cs → AreOf table cs
+those table [] a = tt
+those table (c ∷ cs) a = (a.0.1, those table cs a.1)
+
+-- whatever a statement changes is of its table
+pub changes_of_its : (stmt : Stmt) (t : Table) → AreOf (table_named stmt) (data_over stmt t).0
+changes_of_its (Insert i) t = those (i.table) (data_over (Insert i) t).0 (data_in (Insert i) t refl)
+changes_of_its (Update u) t = those (u.table) (data_over (Update u) t).0 (data_in (Update u) t refl)
+changes_of_its (Delete d) t = those (d.table) (data_over (Delete d) t).0 (data_in (Delete d) t refl)
+changes_of_its (Select s) t = tt
+changes_of_its (CreateTable name cols) t = (refl, tt)
+changes_of_its (DropTable name) t = (refl, tt)
+changes_of_its stmt t = tt
+
+-- what a statement changes and replies reads its table
+pub outcome_reads : (stmt : Stmt) (a b : Tables) → finite.get a (table_named stmt) ≡ finite.get b (table_named stmt) → change_and_reply stmt a ≡ change_and_reply stmt b
+outcome_reads stmt a b e = ap (λ (o : Option Table). data_over stmt (unwrap_or o (record { cols = []; rows = finite.empty }))) e
 
 -- WHAT AN ANSWER READS
 

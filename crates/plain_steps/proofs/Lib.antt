@@ -1,5 +1,6 @@
 pub mod SplitLemmas
 pub mod LockLemmas
+pub mod ModeLemmas
 pub mod ComingLemmas
 pub mod StillLemmas
 pub mod GainLemmas
@@ -16,3 +17,6 @@ pub mod GoodLemmas
 pub mod KeepLemmas
 pub mod ReplyLemmas
 pub mod FreedLemmas
+pub mod PhaseLemmas
+pub mod OrderlyLemmas
+pub mod AfterLemmas

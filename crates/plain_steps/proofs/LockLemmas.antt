@@ -187,7 +187,7 @@ kept_none levels.Committed gained = refl
 
 -- NOBODY IS IN THE WAY
 
-from_free : (j : ℕ) (ss : List Session) (k : ℕ) (name : LockName) (mode : Mode) → holder_from j ss k name mode ≡ None → (i : ℕ) → i < length ss → j + i ≢ k → is_in_the_way (get_or ss i fresh_session).locks name mode ≡ false
+pub from_free : (j : ℕ) (ss : List Session) (k : ℕ) (name : LockName) (mode : Mode) → holder_from j ss k name mode ≡ None → (i : ℕ) → i < length ss → j + i ≢ k → is_in_the_way (get_or ss i fresh_session).locks name mode ≡ false
 from_free j [] k name mode e i lt ne = absurd (omega (arith, lt))
 from_free j (s ∷ ss) k name mode e i lt ne = by (not (nat_eq j k) && is_in_the_way s.locks name mode) refl (from_free (j + 1) ss k name mode) e i lt ne
   where

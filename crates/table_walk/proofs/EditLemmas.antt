@@ -20,7 +20,7 @@ full_cons : (x : List ℕ) (ys : Slots) → x ≢ [] → LastIsFull ys → LastI
 full_cons x [] h l = h
 full_cons x (y ∷ ys) h l = l
 
-LastIsFull-trimmed : (xs : Slots) → LastIsFull (trimmed xs)
+pub LastIsFull-trimmed : (xs : Slots) → LastIsFull (trimmed xs)
 LastIsFull-trimmed [] = tt
 LastIsFull-trimmed (x ∷ xs) = in_front x (trimmed xs) (LastIsFull-trimmed xs)
   where

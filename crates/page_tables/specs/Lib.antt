@@ -1,0 +1,5 @@
+pub mod Layout
+pub mod Sheets
+pub mod Owners
+pub mod Bases
+pub mod Writes

@@ -1,0 +1,9 @@
+//! Pages as one database: whose each page is, and which tables stand on them.
+#![tactic(auto)]
+
+mod law;
+
+pub use law::{
+    a_plan_is_one_of_the_database, bases_are_one, claims_give_their_pages, sheets_are_pages,
+    tables_depend_on_their_pages, writes_are_claims_and_edits,
+};
