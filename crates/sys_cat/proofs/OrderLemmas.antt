@@ -2,15 +2,15 @@
 use Rattle.std.proofs.Common.{◌≡◌, ◌≢◌, ◌<◌, ◌≤◌, ◌+◌, ℕ, suc, Bool, true, false, cond, List, [], ◌∷◌, ◌++◌, length, map, refl, sym, ap, subst, ◌∙◌, arith, append_assoc}
 use Rattle.std.specs.Prelude.{Option, Some, None, pos, ◌<ℤ◌}
 use Rattle.std.specs.FinMap as finite
-use Rattle.std.specs.FinMap.{same_entries_map}
+use Rattle.std.specs.FinMap.{put, same_entries_map, entries-insert, len-entries, len-empty}
 use Rattle.std.specs.List.{flat_map, AllByRecursion}
 use Rattle.std.specs.List.Sorted.{IsStrictlySortedBy}
-use Rattle.std.specs.Ordering.{nat_cmp, int_cmp}
+use Rattle.std.specs.Ordering.{nat_cmp, int_cmp, match_ordering}
 use Rattle.std.specs.Cmp.{tied_itself, int_cmp_is}
 use Rattle.std.specs.Cmp.Lexicographic.{slice_cmp, nat_list_cmp_total}
 use Rattle.std.specs.declared.cmp.Ordering.{Ordering}
 use Rattle.std.specs.declared.cmp.Ordering.TheVariants.{Less, Equal, Greater}
-use Rattle.std.proofs.lemmas.List.{map-append}
+use Rattle.std.proofs.lemmas.List.{map-append, nil_from_length}
 use Rattle.page_base.specs.declared.column.Column.{Column}
 use Rattle.page_base.specs.declared.value.Value.{Value}
 use Rattle.page_base.specs.declared.value.Value.TheVariants.{Int, Text}
@@ -18,6 +18,8 @@ use Rattle.page_base.specs.Order.{value_cmp, key_cmp}
 use Rattle.page_base.proofs.Ordered.{key_cmp_total}
 use Rattle.page_base.proofs.MapLemmas.{entries-from_entries}
 use Rattle.plain_model.specs.Tables.{Rows, key_of}
+use Rattle.table_walk.specs.Tables.{Gathers}
+use Rattle.table_walk.proofs.OrderLemmas.{keys_exact}
 use Rattle.sys_cat.specs.declared.desc.TableDesc.{TableDesc}
 use Rattle.sys_cat.specs.Rows.{table_0, row_of, table_row, column_row, column_rows, rows_of, type_number, type_length, key_number}
 use Rattle.sys_cat.specs.Changing.{row_key, AreKeyed}
@@ -144,3 +146,30 @@ paired (e ∷ es) h =
 pub is_made : (rows : Rows) (list : List (List Value)) → AreKeyed rows → finite.values rows ≡ list → IsStrictlySortedBy key_cmp (keys_in list) → rows ≡ made (map entry list)
 is_made rows list keyed values sorted =
     same_entries_map rows (made (map entry list)) (paired (finite.entries rows) keyed ∙ ap (map entry) values ∙ sym (made_entries list sorted))
+
+-- ---- rows that are gathered from pages
+
+put_keyed : (k v : List Value) (es : List Entry) → k ≡ key_of table_0 v → AllByRecursion (λ (e : Entry). e.0 ≡ key_of table_0 e.1) es → AllByRecursion (λ (e : Entry). e.0 ≡ key_of table_0 e.1) (put key_cmp k v es)
+put_keyed k v [] is a = (is, tt)
+put_keyed k v (e ∷ es) is a = chosen (put_keyed k v es is a.1) (key_cmp k e.0) refl
+  where
+    chosen : AllByRecursion (λ (x : Entry). x.0 ≡ key_of table_0 x.1) (put key_cmp k v es) → (o : Ordering) → key_cmp k e.0 ≡ o → AllByRecursion (λ (x : Entry). x.0 ≡ key_of table_0 x.1) (match_ordering o ((k, v) ∷ e ∷ es) ((e.0, v) ∷ es) (e ∷ put key_cmp k v es))
+    chosen later Less at = (is, a)
+    chosen later Equal at = (sym (keys_exact k e.0 at) ∙ is, a.1)
+    chosen later Greater at = (a.0, later)
+
+apart_keyed : (es : List Entry) → AllByRecursion (λ (e : Entry). e.0 ≡ key_of table_0 e.1) es → map (λ (e : Entry). e.0) es ≡ keys_in (map (λ (e : Entry). e.1) es)
+apart_keyed [] a = refl
+apart_keyed (e ∷ es) a = λ i. a.0 i ∷ apart_keyed es a.1 i
+
+gathered : (cells : List (List ℕ)) (rows : Rows) → Gathers table_0 cells rows → AllByRecursion (λ (e : Entry). e.0 ≡ key_of table_0 e.1) (finite.entries rows)
+gathered [] rows g = subst (AllByRecursion (λ (e : Entry). e.0 ≡ key_of table_0 e.1)) (sym (ap finite.entries g ∙ nil_from_length _ (sym (len-entries finite.empty) ∙ len-empty key_cmp (List Value)))) tt
+gathered (x ∷ cells) rows g =
+    let row : List Value = g.0 in
+    let rest : Rows = g.1 in
+    let is : rows ≡ finite.insert rest (key_of table_0 row) row = g.6 in
+    subst (AllByRecursion (λ (e : Entry). e.0 ≡ key_of table_0 e.1)) (sym (ap finite.entries is ∙ entries-insert key_cmp_total rest (key_of table_0 row) row))
+    (put_keyed (key_of table_0 row) row (finite.entries rest) refl (gathered cells rest g.4))
+
+pub gathered_keyed : (cells : List (List ℕ)) (rows : Rows) → Gathers table_0 cells rows → AreKeyed rows
+gathered_keyed cells rows g = apart_keyed (finite.entries rows) (gathered cells rows g)
