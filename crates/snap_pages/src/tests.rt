@@ -59,7 +59,12 @@ fn push_or_change<P: PageFile>(pages: &mut SnapPages<P>, p: PageId, rec: &Rec) -
 
 // Brings in a page, pushes or changes it, and lets it go.
 #[tactic(auto, using(crate::proofs::CallerLemmas::keeps_on))]
-fn touch<P: PageFile>(alloc: Global, pages: &mut SnapPages<P>, p: PageId, rec: &Rec) -> Result<bool, FetchRefusal>
+fn touch<P: PageFile>(
+    alloc: Global,
+    pages: &mut SnapPages<P>,
+    p: PageId,
+    rec: &Rec,
+) -> Result<bool, FetchRefusal>
     requires there { IsThere pages.old p }
     requires few { pins pages.old p < 2 ^ 100 }
     ensures views { KeepsViews pages.old pages.new }
@@ -196,7 +201,13 @@ fn a_copied_page_is_not_copied_again(rt: HostRuntime) -> Result<(), Fail> {
     assert_eq!(rt; touched(rt.alloc(), &mut pages, 6), Some(true));
     assert!(rt; 0 < pages.cat().count());
     assert_eq!(rt; pages.set(SnapNo(0)).size_on_disk(0), 131072);
-    assert_eq!(rt; pages.look(SnapNo(0), PageId { file: 0, page: 8 }), Place::Sparse);
-    assert_eq!(rt; pages.look(SnapNo(0), PageId { file: 0, page: 9 }), Place::Through);
+    assert_eq!(rt;
+        pages.look(SnapNo(0), PageId { file: 0, page: 8 }),
+        Place::Sparse
+    );
+    assert_eq!(rt;
+        pages.look(SnapNo(0), PageId { file: 0, page: 9 }),
+        Place::Through
+    );
     Ok(())
 }

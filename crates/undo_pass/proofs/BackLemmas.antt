@@ -1,5 +1,5 @@
 -- A slot is set to what stood there before, and the page's pin is taken back.
-use Rattle.std.proofs.Common.{◌≡◌, ℕ, ◌-◌, ◌<◌, ◌≤◌, ◌⊎◌, inl, inr, List, Result, Ok, Err, ap, sym, ◌∙◌, subst, refl, arith}
+use Rattle.std.proofs.Common.{◌≡◌, ℕ, ◌-◌, ◌<◌, ◌≤◌, ◌⊎◌, inl, inr, Result, Ok, Err, ap, sym, ◌∙◌, subst, arith}
 use Rattle.std.specs.Prelude.{OnOk, OnErr, IfErr}
 use Rattle.page_base.specs.declared.numbers.PageId.{PageId}
 use Rattle.page_base.specs.Pages.{set_at}
@@ -8,7 +8,7 @@ use Rattle.page_fmt.specs.Spelling.{used}
 use Rattle.page_fmt.specs.Content.{content, IsPage}
 use Rattle.page_fmt.specs.Edits.{edited, LacksRoom}
 use Rattle.rec_log.specs.Records.{Record}
-use Rattle.buf_pool.specs.Pool.{Pooled, without_pin, pins as pool_pins}
+use Rattle.buf_pool.specs.Pool.{without_pin}
 use Rattle.buf_pool.specs.Steps.{SameHolds, SameShown}
 use Rattle.snap_pages.specs.Shown.{Shown, img, pins}
 use Rattle.snap_pages.specs.Slots.{slots_of, SetsSlot}

@@ -1,5 +1,5 @@
 -- A record is healed in four steps: its page is read, mended, written, and the record dropped.
-use Rattle.std.proofs.Common.{◌≡◌, ◌≢◌, ℕ, ◌+◌, ◌≤◌, IsTrue, List, [], ◌∷◌, ◌++◌, Result, Ok, Err, ap, sym, ◌∙◌, subst}
+use Rattle.std.proofs.Common.{◌≡◌, ℕ, ◌+◌, ◌≤◌, IsTrue, List, [], ◌∷◌, ◌++◌, Result, Ok, Err, ap, sym, ◌∙◌, subst}
 use Rattle.std.specs.Prelude.{OnErr}
 use Rattle.page_base.specs.declared.numbers.PageId.{PageId}
 use Rattle.page_base.specs.declared.numbers.SnapNo.{SnapNo}
@@ -13,11 +13,10 @@ use Rattle.buf_pool.specs.Pool.{Pooled, without_pin, pins as pool_pins}
 use Rattle.buf_pool.specs.Steps.{SameShown}
 use Rattle.sparse_set.specs.Sparse.{Sparse, sparse_page}
 use Rattle.snap_cat.specs.Catalog.{Catalog, snap_at, with_owed}
-use Rattle.snap_pages.specs.Shown.{Shown, catalog, set_of, owes_of}
+use Rattle.snap_pages.specs.Shown.{Shown, set_of, owes_of}
 use Rattle.snap_pages.specs.Slots.{slots_of}
 use Rattle.snap_pages.specs.Views.{view, IsKept, KeepsViews}
 use Rattle.snap_pages.specs.Owed.{AreOwed, DropsOwed}
-use Rattle.snap_pages.specs.Steps.{SamePool}
 use Rattle.snap_pages.proofs.SourceLemmas.{slots_edited}
 use Rattle.undo_pass.specs.Heals.{OthersStay, IsHealed, IsUnhealed}
 use Rattle.undo_pass.specs.Mending.{ReadsOnce, Mends}

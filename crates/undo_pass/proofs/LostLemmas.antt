@@ -1,10 +1,10 @@
 -- A snapshot that turns suspect is promised nothing, and the others stay.
-use Rattle.std.proofs.Common.{get_or-set_same, get_or-set_other, ◌≡◌, ◌≢◌, inl, inr, List, ap, sym, ◌∙◌, subst}
+use Rattle.std.proofs.Common.{get_or-set_same, get_or-set_other, ◌≡◌, ◌≢◌, inl, inr, ap, sym, subst}
 use Rattle.std.proofs.lemmas.Bool.{cases_eq}
 use Rattle.page_base.specs.declared.numbers.SnapNo.{SnapNo}
 use Rattle.snap_cat.specs.Catalog.{Snap, Catalog, no_snap, snap_at, HasSnap, with_state}
 use Rattle.snap_cat.specs.declared.snapshot.SnapState.TheVariants.{Suspect}
-use Rattle.snap_pages.specs.Shown.{Shown, catalog, IsOpen, state_of, with_catalog}
+use Rattle.snap_pages.specs.Shown.{Shown, catalog, IsOpen, with_catalog}
 use Rattle.snap_pages.specs.Views.{view, IsKept, KeepsViews}
 use Rattle.undo_pass.specs.Heals.{IsUnhealed}
 
@@ -24,8 +24,8 @@ lost_keeps s old mid new has un is = subst (λ (x : Shown). KeepsViews old x) (s
     each k kept = elim (cases_eq k.0 s.0) [
       | inl e ↦ absurd (kept.sound (subst (λ (j : SnapNo). (snap_at (with_state (catalog mid) s Suspect) j).state ≡ Suspect) (λ i. record { 0 = sym e i }) (state_there (catalog mid) s there)))
       | inr ne ↦ un.stay.views k (λ same. ne (ap (λ (j : SnapNo). j.0) same)) (record {
-          sound = subst (λ (x : Snap). x.state ≢ Suspect) (state_else (catalog mid) s k ne) kept.sound;
-          tells = kept.tells;
-          source = kept.source;
-        })
+        sound = subst (λ (x : Snap). x.state ≢ Suspect) (state_else (catalog mid) s k ne) kept.sound;
+        tells = kept.tells;
+        source = kept.source;
+      })
     ]

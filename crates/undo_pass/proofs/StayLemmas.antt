@@ -1,5 +1,5 @@
 -- What of the other snapshots stays, call by call.
-use Rattle.std.proofs.Common.{◌≡◌, ◌≢◌, List, ap, sym, ◌∙◌, Result}
+use Rattle.std.proofs.Common.{◌≡◌, List, ap, ◌∙◌, Result}
 use Rattle.page_base.specs.declared.numbers.PageId.{PageId}
 use Rattle.page_base.specs.declared.numbers.SnapNo.{SnapNo}
 use Rattle.sparse_set.specs.Sparse.{Sparse}

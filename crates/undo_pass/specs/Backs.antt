@@ -1,5 +1,5 @@
 -- A transaction's last record is taken back from the source's page.
-use Rattle.std.specs.Prelude.{◌≡◌, ◌+◌, ◌≤◌, ◌<◌, List, [], ◌∷◌, ◌++◌}
+use Rattle.std.specs.Prelude.{◌≡◌, ◌+◌, ◌≤◌, ◌<◌, [], ◌∷◌, ◌++◌}
 use Rattle.page_base.specs.Pages.{set_at}
 use Rattle.page_fmt.specs.Spelling.{used}
 use Rattle.page_fmt.specs.Content.{content, IsPage}

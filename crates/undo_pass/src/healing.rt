@@ -33,7 +33,12 @@ fn last_page<P: PageFile>(pages: &SnapPages<P>, s: SnapNo) -> PageId
 }
 
 // Reads a page of the snapshot's sparse file.
-fn read_page<P: PageFile>(pages: &mut SnapPages<P>, s: SnapNo, p: PageId, scratch: &mut Image) -> Result<(), HealRefusal>
+fn read_page<P: PageFile>(
+    pages: &mut SnapPages<P>,
+    s: SnapNo,
+    p: PageId,
+    scratch: &mut Image,
+) -> Result<(), HealRefusal>
     requires snap { IsOpen pages.old s }
     requires there { IsThere pages.old p }
     requires copied { is_copied (set_of pages.old s) p ≡ true }
@@ -51,7 +56,11 @@ fn read_page<P: PageFile>(pages: &mut SnapPages<P>, s: SnapNo, p: PageId, scratc
 }
 
 // Puts what stood in the slot of the last record that the snapshot owes back into the image.
-fn mend<P: PageFile>(pages: &SnapPages<P>, s: SnapNo, scratch: &mut Image) -> Result<(), HealRefusal>
+fn mend<P: PageFile>(
+    pages: &SnapPages<P>,
+    s: SnapNo,
+    scratch: &mut Image,
+) -> Result<(), HealRefusal>
     requires snap { IsOpen pages.now s }
     requires some { owes_of pages.now s ≢ [] }
     requires page { IsPage scratch.old }
@@ -72,7 +81,11 @@ fn mend<P: PageFile>(pages: &SnapPages<P>, s: SnapNo, scratch: &mut Image) -> Re
 /// record stays: `Failed` only where the sparse file's count of faults rose, and then that page may hold anything;
 /// `Damaged` exactly where the bytes that were read are no page, or what stood in the slot has no room there. Takes no
 /// memory.
-pub fn heal<P: PageFile>(pages: &mut SnapPages<P>, s: SnapNo, scratch: &mut Image) -> Result<(), HealRefusal>
+pub fn heal<P: PageFile>(
+    pages: &mut SnapPages<P>,
+    s: SnapNo,
+    scratch: &mut Image,
+) -> Result<(), HealRefusal>
     requires snap { IsOpen pages.old s }
     requires sound { state_of pages.old s ≢ Suspect }
     requires some { owes_of pages.old s ≢ [] }

@@ -1,5 +1,5 @@
 -- A pin and its end.
-use Rattle.std.proofs.Common.{◌≡◌, ◌<◌, ℕ, ap, sym, ◌∙◌, subst}
+use Rattle.std.proofs.Common.{◌<◌, ℕ, ap, sym, ◌∙◌, subst}
 use Rattle.page_base.specs.declared.numbers.PageId.{PageId}
 use Rattle.buf_pool.specs.Pool.{without_pin}
 use Rattle.snap_pages.proofs.PinLemmas.{pin_unpin}

@@ -1,5 +1,5 @@
 -- All pins stay.
-use Rattle.std.proofs.Common.{◌≡◌, ◌∙◌}
+use Rattle.std.proofs.Common.{◌∙◌}
 use Rattle.snap_pages.proofs.tests.touched.Goals as goal
 
 pub returns-clause-free : goal.returns-clause-free

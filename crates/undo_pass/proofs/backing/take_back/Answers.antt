@@ -1,5 +1,5 @@
 -- The record whose sides are exchanged sets what stood before.
-use Rattle.std.proofs.Common.{◌≡◌, ◌<◌, ℕ, ap, sym, subst}
+use Rattle.std.proofs.Common.{◌≡◌, ◌<◌, ℕ, sym, subst}
 use Rattle.page_base.specs.declared.numbers.PageId.{PageId}
 use Rattle.rec_log.specs.Records.{Record}
 use Rattle.snap_pages.specs.Shown.{IsPinned}

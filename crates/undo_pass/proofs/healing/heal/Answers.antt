@@ -1,5 +1,5 @@
 -- The four steps, one after the other.
-use Rattle.std.proofs.Common.{◌≡◌, ◌<◌, ℕ, Bool, true, false, List, get_or, ap, sym, ◌∙◌, subst}
+use Rattle.std.proofs.Common.{◌<◌, ℕ, Bool, false, List, get_or, ap, sym, ◌∙◌, subst}
 use Rattle.page_base.specs.Pages.{Pages, page_or}
 use Rattle.undo_pass.specs.Heals.{OthersStay}
 use Rattle.undo_pass.proofs.StayLemmas.{stay_write, stay_kept}

@@ -1,1 +1,0 @@
-//! Records that are taken back.
