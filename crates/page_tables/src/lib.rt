@@ -4,6 +4,7 @@
 mod law;
 
 pub use law::{
-    a_plan_is_one_of_the_database, bases_are_one, claims_give_their_pages, sheets_are_pages,
-    tables_depend_on_their_pages, writes_are_claims_and_edits,
+    a_plan_is_one_of_the_database, a_plan_of_table_0_leaves_the_tables, bases_are_one,
+    claims_give_their_pages, sheets_are_pages, tables_depend_on_their_pages,
+    writes_are_claims_and_edits,
 };
