@@ -17,13 +17,8 @@ ghost use Rattle.sys_cat.specs.declared.desc.TableDesc.{TableDesc};
 ghost use Rattle.sys_cat.specs.Lists.{AreTables};
 ghost use Rattle.sys_cat.specs.Rows.{table_0, zero_root};
 ghost use Rattle.table_walk.specs.declared.plan.Edit.{Edit};
-<<<<<<< HEAD
 ghost use Rattle.table_walk.specs.Plans.{after, also, is_claimed, Go, Carries};
-ghost use Rattle.page_tables.specs.Bases.{AreRowsOf, IsBase};
-=======
-ghost use Rattle.table_walk.specs.Plans.{after, is_claimed, Go, Carries};
 ghost use Rattle.page_tables.specs.Bases.{AreRowsOf, AreStanding, IsBase};
->>>>>>> 2fe99686c1848b44e42f64bcb0662c1f6e7f3b1a
 ghost use Rattle.page_tables.specs.Layout.{shape, first};
 ghost use Rattle.page_tables.specs.Owners.{is_there, owner, owns, IsAllocPage, IsSpread};
 ghost use Rattle.page_tables.specs.Sheets.{sheets};
