@@ -23,7 +23,12 @@ use std::test::Fail;
 // Puts a snapshot's copy of a page in the source's place where no snapshot lacks the page; else lets it go. Answers
 // whether it was put.
 #[tactic(auto, using(snap_pages::proofs::CallerLemmas::keeps_on))]
-fn put_back<P: PageFile>(alloc: Global, pages: &mut SnapPages<P>, s: SnapNo, p: PageId) -> Result<bool, RevertRefusal>
+fn put_back<P: PageFile>(
+    alloc: Global,
+    pages: &mut SnapPages<P>,
+    s: SnapNo,
+    p: PageId,
+) -> Result<bool, RevertRefusal>
     requires snap { IsOpen pages.old s }
     requires there { IsThere pages.old p }
     requires copied { is_copied (set_of pages.old s) p ≡ true }
@@ -73,7 +78,11 @@ fn push_next<P: PageFile>(pages: &mut SnapPages<P>, p: PageId)
 }
 
 // Brings in a page, pushes it, and lets it go.
-fn touch<P: PageFile>(alloc: Global, pages: &mut SnapPages<P>, p: PageId) -> Result<(), FetchRefusal>
+fn touch<P: PageFile>(
+    alloc: Global,
+    pages: &mut SnapPages<P>,
+    p: PageId,
+) -> Result<(), FetchRefusal>
     requires there { IsThere pages.old p }
     requires few { pins pages.old p < 2 ^ 100 }
     ensures pins { pins pages.new ≡ pins pages.old }

@@ -1,7 +1,6 @@
 -- What was gathered is one page, which is held.
-use Rattle.std.proofs.Common.{◌≡◌, ℕ, [], true, false, refl, ap, sym, ◌∙◌, subst}
+use Rattle.std.proofs.Common.{ap, sym, ◌∙◌, subst}
 use Rattle.std.proofs.lemmas.Bool.{false≢true}
-use Rattle.page_base.specs.declared.numbers.PageId.{PageId}
 use Rattle.snap_pages.specs.Shown.{pins}
 use Rattle.revert_pass.specs.Got.{Got, AreGotPushed, AreHeld, has, ungathered}
 use Rattle.revert_pass.proofs.HeldLemmas.{held_more, pins_let_go, pushed_more}
