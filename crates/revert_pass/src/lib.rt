@@ -6,6 +6,8 @@ mod gathering;
 mod law;
 mod refusal;
 mod swapping;
+#[cfg(test)]
+mod tests;
 
 pub use gathered::Gathered;
 pub use gathering::gather;

@@ -1,11 +1,10 @@
 -- The record that is taken back is the one that was pushed.
-use Rattle.std.proofs.Common.{◌≡◌, ◌≢◌, ◌<◌, ◌^◌, ℕ, List, [], ◌∷◌, ◌++◌, ap, sym, ◌∙◌, subst}
+use Rattle.std.proofs.Common.{◌≡◌, ◌<◌, ◌^◌, ℕ, ap, sym, ◌∙◌, subst}
 use Rattle.page_base.specs.declared.numbers.PageId.{PageId}
 use Rattle.rec_log.specs.Records.{Record}
 use Rattle.buf_pool.specs.Pool.{without_pin}
 use Rattle.snap_pages.specs.Shown.{pins, IsPinned}
 use Rattle.snap_pages.specs.Dues.{IsPushed}
-use Rattle.snap_pages.specs.Views.{KeepsViews}
 use Rattle.snap_pages.proofs.CallerLemmas.{keeps_on, pushed_on}
 use Rattle.snap_pages.proofs.PinLemmas.{pin_unpin, pinned_more}
 use Rattle.undo_pass.proofs.LastLemmas.{front_same, last_same, some_last}

@@ -1,5 +1,5 @@
 -- One page is pinned, once.
-use Rattle.std.proofs.Common.{◌≡◌, ◌<◌, ◌+◌, arith}
+use Rattle.std.proofs.Common.{◌≡◌, ◌+◌, arith}
 use Rattle.page_base.specs.declared.numbers.PageId.{PageId}
 use Rattle.snap_pages.specs.Shown.{pins}
 use Rattle.undo_pass.proofs.tests.undone.Goals as goal
