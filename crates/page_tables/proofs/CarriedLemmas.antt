@@ -96,7 +96,7 @@ module _ (counts : List ℕ) (at : SlotsAt) (ds : List TableDesc) (tables : Tabl
   desc : IsDesc d
   desc = subst IsDesc is (each_desc ds b.descs.descs.each k d there)
 
-  small : d.number.0 + 1 < 4294967295
+  pub small : d.number.0 + 1 < 4294967295
   small = omega (arith, desc.head.number)
 
   abbrev first_at : SlotsAt
@@ -106,7 +106,7 @@ module _ (counts : List ℕ) (at : SlotsAt) (ds : List TableDesc) (tables : Tabl
   last_at = after claimed (with_claims number claimed n at) edits
 
   -- a page of the table, or one that is claimed, is no allocation page
-  mine_off : (q : PageId) → also (owns counts at d.number.0) claimed n q ≡ true → q.page % 1280 ≢ 0
+  pub mine_off : (q : PageId) → also (owns counts at d.number.0) claimed n q ≡ true → q.page % 1280 ≢ 0
   mine_off q m = elim (cases_Bool (is_claimed claimed n q)) [
     | inl t ↦
         let i = claim_of counts d.number.0 claimed small n q t in

@@ -13,7 +13,6 @@ use Rattle.table_walk.specs.Tables.{HasRows}
 use Rattle.page_tables.specs.Layout.{shape, first}
 use Rattle.page_tables.specs.Owners.{is_there, owner, owns, IsAllocPage, IsSpread, IsOwner}
 
-
 -- the pages of the table of this number, from this root on, are these rows
 abbrev pub AreRowsOf : List ℕ → SlotsAt → List Column → ℕ → PageId → Rows → Type 0
 AreRowsOf counts at cols number root rows = HasRows shape cols at (owns counts at number) (first root) rows
