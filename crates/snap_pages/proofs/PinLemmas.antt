@@ -1,5 +1,6 @@
 -- Pins that are put on the pages of records, or taken from them, one record after the other.
-use Rattle.std.proofs.Common.{◌≡◌, ℕ, ◌+◌, ◌-◌, ◌^◌, ◌<◌, ◌≤◌, Bool, true, false, cond, List, [], ◌∷◌, ◌++◌, length, take, get_or, ap, sym, ◌∙◌, arith, add-zero, refl, Option, Some, None, is_some}
+use Rattle.std.proofs.Common.{◌≡◌, ℕ, ◌+◌, ◌-◌, ◌^◌, ◌<◌, ◌≤◌, Bool, true, false, cond, List, [], ◌∷◌, ◌++◌, length, take, get_or, ap, sym, ◌∙◌, subst, arith, add-zero, refl, Option, Some, None, is_some}
+use Rattle.std.proofs.lemmas.Bool.{false≢true}
 use Rattle.std.proofs.lemmas.List.Sums.{sum_by_more, sum_by_more_le, sum_by-append}
 use Rattle.page_base.specs.declared.numbers.PageId.{PageId}
 use Rattle.page_base.specs.Pages.{is_page}
@@ -7,8 +8,8 @@ use Rattle.page_base.proofs.PagesLemmas.{is_page-same}
 use Rattle.rec_log.specs.Records.{Record}
 use Rattle.std.specs.Option.{option_map_or}
 use Rattle.buf_pool.specs.declared.frame.Frame.{Frame}
-use Rattle.buf_pool.specs.Pool.{Pooled, IsPinned, IsPooled, frame_of, with_pin, without_pin}
-use Rattle.buf_pool.specs.Steps.{SameShown}
+use Rattle.buf_pool.specs.Pool.{Pooled, IsPinned, IsPooled, frame_of, pins as pool_pins, with_pin, without_pin}
+use Rattle.buf_pool.specs.Steps.{PinsOnce, SameShown}
 use Rattle.snap_pages.specs.Owed.{count_on, with_pins_of, without_pins_of}
 
 -- whether a record is of a page, as a number
@@ -87,3 +88,11 @@ pinned_pooled v p pinned = by_frame (frame_of v p) pinned
     by_frame : (f : Option Frame) → 0 < option_map_or (λ (x : Frame). x.pins) f 0 → is_some f ≡ true
     by_frame None lt = absurd (omega arith)
     by_frame (Some x) lt = refl
+
+more_there : (b : Bool) (n : ℕ) → b ≡ true → 0 < cond b (n + 1) n
+more_there true n e = omega arith
+more_there false n e = absurd (false≢true e)
+
+-- a page that was fetched is pinned
+pub once_pinned : (old new : Pooled) (p : PageId) → PinsOnce p old new → IsPinned new p
+once_pinned old new p once = subst (λ n. 0 < n) (sym (λ i. once.pinned i p)) (more_there (is_page p p) (pool_pins old p) (is_page-same p))

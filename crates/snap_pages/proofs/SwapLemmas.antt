@@ -1,6 +1,5 @@
 -- One snapshot's entry in the catalog changes, and the snapshots of other cuts stay.
-use Rattle.std.proofs.Common.{get_or-set_other, ◌≡◌, ◌≢◌, ℕ, inl, inr, List, Option, Some, None, option_map, refl, ap, sym, ◌∙◌}
-use Rattle.std.proofs.lemmas.Bool.{cases_eq}
+use Rattle.std.proofs.Common.{get_or-set_other, ◌≡◌, ◌≢◌, ℕ, List, Some, option_map, ap, sym, ◌∙◌}
 use Rattle.page_base.specs.declared.numbers.SnapNo.{SnapNo}
 use Rattle.sparse_set.specs.Sparse.{Sparse, no_set}
 use Rattle.std.specs.Prelude.{slice_index_or}
@@ -26,12 +25,12 @@ module _ (old new : Shown) (s : SnapNo) (x : Snap) (has : IsOpen old s) (is : ca
 
   pub swap_by_other : (c : ℕ) → c ≢ cut_of old s → snap_by new c ≡ snap_by old c
   swap_by_other c ne = by_place old c
-    (λ k e.
-    let apart : k.0 ≢ s.0 = λ is. ne (sym (place_some old c k e).is ∙ ap (cut_of old) (λ i. record { 0 = is i })) in
-    entries c ∙ ap (option_map (entry (swapped (catalog old) s x) old.sets)) e
-    ∙ (λ i. Some (get_or-set_other (catalog old).snaps s.0 k.0 x no_snap apart i, set_of old k))
-    ∙ sym (ap (option_map (entry (catalog old) old.sets)) e))
-    (λ e. entries c ∙ ap (option_map (entry (swapped (catalog old) s x) old.sets)) e ∙ sym (ap (option_map (entry (catalog old) old.sets)) e))
+      (λ k e.
+      let apart : k.0 ≢ s.0 = λ is. ne (sym (place_some old c k e).is ∙ ap (cut_of old) (λ i. record { 0 = is i })) in
+      entries c ∙ ap (option_map (entry (swapped (catalog old) s x) old.sets)) e
+      ∙ (λ i. Some (get_or-set_other (catalog old).snaps s.0 k.0 x no_snap apart i, set_of old k))
+      ∙ sym (ap (option_map (entry (catalog old) old.sets)) e))
+      (λ e. entries c ∙ ap (option_map (entry (swapped (catalog old) s x) old.sets)) e ∙ sym (ap (option_map (entry (catalog old) old.sets)) e))
 
   pub swap_by_here : IsCatalog (catalog old) → snap_by new (cut_of old s) ≡ Some (x, set_of old s)
   swap_by_here all =

@@ -23,6 +23,7 @@ impl<P: PageFile> SnapPages<P> {
         requires there { IsThere self.old p }
         requires few { pins self.old p < 2 ^ 100 }
         ensures once { OnOk result (PinsOnce p self.old.pool self.new.pool) }
+        ensures pinned { OnOk result (IsPinned self.new p) }
         ensures stays { OnErr result (Stays self.old.pool self.new.pool) }
         ensures free { OnOk result (¬ IsStuck self.old.pool p) }
         ensures first { OnOk result (order self.new.pool ≡ order_used self.old.pool p) }

@@ -1,4 +1,4 @@
-//! A caller of the pages, which needs no proof of its own; and the worked example of a page that was copied.
+//! A caller of the pages, whose proof only joins clauses; and the worked example of a page that was copied.
 
 ghost use Rattle.std.proofs.Common.{rules};
 ghost use Rattle.std.specs.Prelude.{◌≡◌, ◌<◌, ◌≤◌, ◌^◌, [], ◌∷◌, IfOk};
@@ -11,7 +11,7 @@ ghost use Rattle.snap_pages.specs.Dues.{IsDue, IsFirstDue, NoneNewDue};
 use crate::{Place, SnapPages};
 use buf_pool::FetchRefusal;
 use ghost_log::Tally;
-use page_base::{Failed, Image, Name, NoMemory, PageId, SnapNo};
+use page_base::{Bytes, Failed, Image, Name, NoMemory, PageId, SnapNo};
 use page_dev::{FileList, PageFile};
 use rec_log::{Rec, Work};
 use snap_cat::{FileNames, SnapState};
@@ -20,6 +20,7 @@ use std::alloc::Global;
 use std::test::Fail;
 
 // Pushes a page to the lowest snapshot that lacks it; where the copy fails that one is suspect.
+#[tactic(auto, using(crate::proofs::CallerLemmas::keeps_on, crate::proofs::CallerLemmas::dues_on))]
 fn push<P: PageFile>(pages: &mut SnapPages<P>, s: SnapNo, p: PageId)
     requires pinned { IsPinned pages.old p }
     requires snap { IsOpen pages.old s }
@@ -57,8 +58,13 @@ fn push_or_change<P: PageFile>(pages: &mut SnapPages<P>, p: PageId, rec: &Rec) -
 }
 
 // Brings in a page, pushes or changes it, and lets it go.
-#[tactic(auto, using(crate::proofs::PinLemmas::pin_unpin))]
-fn touch<P: PageFile>(alloc: Global, pages: &mut SnapPages<P>, p: PageId, rec: &Rec) -> Result<bool, FetchRefusal>
+#[tactic(auto, using(crate::proofs::CallerLemmas::keeps_on))]
+fn touch<P: PageFile>(
+    alloc: Global,
+    pages: &mut SnapPages<P>,
+    p: PageId,
+    rec: &Rec,
+) -> Result<bool, FetchRefusal>
     requires there { IsThere pages.old p }
     requires few { pins pages.old p < 2 ^ 100 }
     ensures views { KeepsViews pages.old pages.new }
@@ -148,7 +154,7 @@ fn sparse(alloc: Global) -> Result<SparseSet<Fake>, NoMemory>
 fn cut(alloc: Global, pages: &mut SnapPages<Fake>, name: &[u8]) -> Option<SnapNo>
     requires counts { counts pages.old ≡ 16 ∷ [] }
     requires free { (p : PageId) → pins pages.old p ≡ 0 }
-    ensures counts { counts pages.new ≡ counts pages.old }
+    ensures counts { counts pages.new ≡ 16 ∷ [] }
     ensures free { (p : PageId) → pins pages.new p ≡ 0 }
 {
     let name = Name::read(name).ok()?;
@@ -165,29 +171,43 @@ fn cut(alloc: Global, pages: &mut SnapPages<Fake>, name: &[u8]) -> Option<SnapNo
     Some(pages.add(name, FileNames::new(alloc), set, Work::none(alloc)))
 }
 
+// Touches a page of which no other is pinned, with a record that empties its first slot. Answers whether it was pushed.
+fn touched(alloc: Global, pages: &mut SnapPages<Fake>, page: u32) -> Option<bool>
+    requires counts { counts pages.old ≡ 16 ∷ [] }
+    requires free { (p : PageId) → pins pages.old p ≡ 0 }
+    requires there { page < 16 }
+    ensures counts { counts pages.new ≡ 16 ∷ [] }
+    ensures free { (p : PageId) → pins pages.new p ≡ 0 }
+{
+    let p = PageId { file: 0, page };
+    let rec = Rec {
+        page: p,
+        slot: 0,
+        before: Bytes::new(alloc),
+        after: Bytes::new(alloc),
+    };
+    touch(alloc, pages, p, &rec).ok()
+}
+
 #[test]
 fn a_copied_page_is_not_copied_again(rt: HostRuntime) -> Result<(), Fail> {
     let mut pages = source(rt.alloc())?;
     cut(rt.alloc(), &mut pages, b"s1").ok_or("a snapshot")?;
-    let rec = Rec {
-        page: PageId { file: 0, page: 7 },
-        slot: 0,
-        before: page_base::Bytes::new(rt.alloc()),
-        after: page_base::Bytes::new(rt.alloc()),
-    };
-    let first = touch(rt.alloc(), &mut pages, PageId { file: 0, page: 7 }, &rec);
-    assert_eq!(rt; first, Ok(true));
-    let second = touch(rt.alloc(), &mut pages, PageId { file: 0, page: 8 }, &rec);
-    assert_eq!(rt; second, Ok(true));
+    assert_eq!(rt; touched(rt.alloc(), &mut pages, 7), Some(true));
+    assert_eq!(rt; touched(rt.alloc(), &mut pages, 8), Some(true));
     assert!(rt; 0 < pages.cat().count());
     assert_eq!(rt; pages.set(SnapNo(0)).size_on_disk(0), 131072);
-    let again = touch(rt.alloc(), &mut pages, PageId { file: 0, page: 7 }, &rec);
-    assert_eq!(rt; again, Ok(false));
-    let third = touch(rt.alloc(), &mut pages, PageId { file: 0, page: 6 }, &rec);
-    assert_eq!(rt; third, Ok(true));
+    assert_eq!(rt; touched(rt.alloc(), &mut pages, 7), Some(false));
+    assert_eq!(rt; touched(rt.alloc(), &mut pages, 6), Some(true));
     assert!(rt; 0 < pages.cat().count());
     assert_eq!(rt; pages.set(SnapNo(0)).size_on_disk(0), 131072);
-    assert_eq!(rt; pages.look(SnapNo(0), PageId { file: 0, page: 8 }), Place::Sparse);
-    assert_eq!(rt; pages.look(SnapNo(0), PageId { file: 0, page: 9 }), Place::Through);
+    assert_eq!(rt;
+        pages.look(SnapNo(0), PageId { file: 0, page: 8 }),
+        Place::Sparse
+    );
+    assert_eq!(rt;
+        pages.look(SnapNo(0), PageId { file: 0, page: 9 }),
+        Place::Through
+    );
     Ok(())
 }

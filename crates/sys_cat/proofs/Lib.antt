@@ -7,3 +7,5 @@ pub mod ReadLemmas
 pub mod NumberLemmas
 pub mod ColumnLemmas
 pub mod PutLemmas
+pub mod OrderLemmas
+pub mod ChangeLemmas

@@ -4,3 +4,4 @@ pub mod Growing
 pub mod Lines
 pub mod Answers
 pub mod Reading
+pub mod Changing

@@ -14,7 +14,10 @@ mod tests;
 
 pub use columns::{root, zero_columns};
 pub use desc::{DescList, DescRefusal, TableDesc};
-pub use law::{rows_and_tables_determine_each_other, rows_may_be_put};
+pub use law::{
+    gathered_rows_are_keyed, rows_and_tables_determine_each_other, rows_may_be_put,
+    tables_are_put_and_cut,
+};
 pub use number::next_number;
 pub use reading::descs;
 pub use spelling::rows_of;

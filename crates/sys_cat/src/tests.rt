@@ -1,6 +1,6 @@
 //! Rows of tables worked out by hand, the first wrong row of others, and the next number.
 
-use crate::{DescList, DescRefusal, TableDesc, descs, next_number, rows_of};
+use crate::{DescList, DescRefusal, TableDesc, descs, next_number, root, rows_of, zero_columns};
 use page_base::{
     Bytes, ColType, Column, Columns, Name, NoMemory, PageId, Row, RowList, TableNo, Value,
 };
@@ -67,6 +67,13 @@ fn books(alloc: Global) -> Result<TableDesc, Fail> {
         root: PageId { file: 0, page: 9 },
         cols,
     })
+}
+
+#[test]
+fn table_0_has_six_columns(rt: HostRuntime) -> Result<(), Fail> {
+    assert_eq!(rt; zero_columns(rt.alloc())?.len(), 6);
+    assert_eq!(rt; root(), PageId { file: 0, page: 1 });
+    Ok(())
 }
 
 #[test]

@@ -1,0 +1,4 @@
+mod GotLemmas
+mod SwapLemmas
+mod ShowLemmas
+mod HeldLemmas

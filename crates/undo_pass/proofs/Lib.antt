@@ -1,0 +1,5 @@
+mod BackLemmas
+mod LastLemmas
+mod StayLemmas
+mod HealLemmas
+mod LostLemmas
