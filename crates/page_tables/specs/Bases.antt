@@ -32,3 +32,12 @@ pub record IsBase (counts : List ℕ) (at : SlotsAt) (ds : List TableDesc) (tabl
   pub only : (name : List ℕ) (t : Table) → finite.get tables name ≡ Some t → Any (λ d. d.name ≡ name) ds
   pub owners : (p : PageId) → is_there counts p ≡ true → IsOwner ds (owner at p)
   pub blank : (p : PageId) → is_there counts p ≡ true → owner at p ≡ 0 → at p ≡ []
+
+-- the tables that are described stand on these pages beside table 0, which has these rows, whatever they tell
+pub record AreStanding (counts : List ℕ) (at : SlotsAt) (rows : Rows) (ds : List TableDesc) (tables : Tables) : Type 0 where
+  pub spread : (a : PageId) → IsAllocPage counts a → IsSpread counts at a
+  pub zero_pages : AreRowsOf counts at table_0 0 zero_root rows
+  pub each : All (HasTable counts at tables) ds
+  pub only : (name : List ℕ) (t : Table) → finite.get tables name ≡ Some t → Any (λ d. d.name ≡ name) ds
+  pub owners : (p : PageId) → is_there counts p ≡ true → IsOwner ds (owner at p)
+  pub blank : (p : PageId) → is_there counts p ≡ true → owner at p ≡ 0 → at p ≡ []

@@ -14,9 +14,11 @@ ghost use Rattle.page_fmt.specs.Seen.{SlotsAt};
 ghost use Rattle.plain_model.specs.Tables.{Rows, Tables};
 ghost use Rattle.alloc_pages.specs.Owners.{page_owner};
 ghost use Rattle.sys_cat.specs.declared.desc.TableDesc.{TableDesc};
+ghost use Rattle.sys_cat.specs.Lists.{AreTables};
+ghost use Rattle.sys_cat.specs.Rows.{table_0, zero_root};
 ghost use Rattle.table_walk.specs.declared.plan.Edit.{Edit};
 ghost use Rattle.table_walk.specs.Plans.{after, also, is_claimed, Go, Carries};
-ghost use Rattle.page_tables.specs.Bases.{AreRowsOf, IsBase};
+ghost use Rattle.page_tables.specs.Bases.{AreRowsOf, AreStanding, IsBase};
 ghost use Rattle.page_tables.specs.Layout.{shape, first};
 ghost use Rattle.page_tables.specs.Owners.{is_there, owner, owns, IsAllocPage, IsSpread};
 ghost use Rattle.page_tables.specs.Sheets.{sheets};
@@ -62,4 +64,11 @@ pub fn claims_give_their_pages()
 /// else is as it was.
 pub fn a_plan_is_one_of_the_database()
     ensures { (counts : List ℕ) (at : SlotsAt) (ds : List TableDesc) (tables : Tables) (d : TableDesc) (claimed : ℕ → PageId) (n : ℕ) (edits : List Edit) (rows : Rows) → IsBase counts at ds tables → Any (λ e. e ≡ d) ds → AreClaimable counts at claimed n → Carries shape d.cols (first d.root) claimed n at (owns counts at d.number.0) edits rows → IsBase counts (after claimed (with_claims d.number.0 claimed n at) edits) ds (finite.insert tables d.name (record { cols = d.cols; rows = rows })) }
+{}
+
+/// A plan of table 0, behind its claims, leads to its rows, and leaves all other tables as they stand; and pages on which the
+/// tables stand that these rows tell are a database.
+pub fn a_plan_of_table_0_leaves_the_tables()
+    ensures plan { (counts : List ℕ) (at : SlotsAt) (ds : List TableDesc) (tables : Tables) (claimed : ℕ → PageId) (n : ℕ) (edits : List Edit) (rows : Rows) → IsBase counts at ds tables → AreClaimable counts at claimed n → Carries shape table_0 (first zero_root) claimed n at (owns counts at 0) edits rows → AreStanding counts (after claimed (with_claims 0 claimed n at) edits) rows ds tables }
+    ensures base { (counts : List ℕ) (at : SlotsAt) (rows : Rows) (ds : List TableDesc) (tables : Tables) → AreStanding counts at rows ds tables → AreTables (finite.values rows) ds → IsBase counts at ds tables }
 {}

@@ -7,9 +7,10 @@ ghost use Rattle.page_base.specs.declared.numbers.PageId.{PageId};
 ghost use Rattle.page_base.specs.Slots.{Slots};
 ghost use Rattle.plain_model.specs.Tables.{Rows, Tables};
 ghost use Rattle.sys_cat.specs.declared.desc.TableDesc.{TableDesc};
+ghost use Rattle.sys_cat.specs.Rows.{table_0, zero_root};
 ghost use Rattle.table_walk.specs.declared.plan.Edit.{Edit};
 ghost use Rattle.table_walk.specs.Plans.{Carries};
-ghost use Rattle.page_tables.specs.Bases.{AreRowsOf, IsBase};
+ghost use Rattle.page_tables.specs.Bases.{AreRowsOf, AreStanding, IsBase};
 ghost use Rattle.page_tables.specs.Layout.{shape, first};
 ghost use Rattle.page_tables.specs.Owners.{is_there, owns};
 ghost use Rattle.alloc_pages.specs.Owners.{page_owner};
@@ -28,11 +29,12 @@ pub fn writes_leave_the_rest()
 {}
 
 /// The claims and edits of a plan of one table go in turn, are the table's own, and lead to the database in which it has the
-/// plan's rows.
+/// plan's rows; those of a plan of table 0 to pages on which all other tables stand.
 pub fn a_plan_is_written()
     ensures go { (counts : List ℕ) (s : Slots) (ds : List TableDesc) (tables : Tables) (d : TableDesc) (claimed : ℕ → PageId) (n : ℕ) (edits : List Edit) (rows : Rows) → IsBase counts (sheets s) ds tables → Any (λ e. e ≡ d) ds → AreClaimable counts (sheets s) claimed n → Carries shape d.cols (first d.root) claimed n (sheets s) (owns counts (sheets s) d.number.0) edits rows → MayWriteAll counts s (claims d.number.0 claimed n ++ map (write_of claimed) edits) }
     ensures mine { (counts : List ℕ) (s : Slots) (ds : List TableDesc) (tables : Tables) (d : TableDesc) (claimed : ℕ → PageId) (n : ℕ) (edits : List Edit) (rows : Rows) → IsBase counts (sheets s) ds tables → Any (λ e. e ≡ d) ds → AreClaimable counts (sheets s) claimed n → Carries shape d.cols (first d.root) claimed n (sheets s) (owns counts (sheets s) d.number.0) edits rows → AreMine counts (is_of d.number.0) s (claims d.number.0 claimed n ++ map (write_of claimed) edits) }
     ensures base { (counts : List ℕ) (s : Slots) (ds : List TableDesc) (tables : Tables) (d : TableDesc) (claimed : ℕ → PageId) (n : ℕ) (edits : List Edit) (rows : Rows) → IsBase counts (sheets s) ds tables → Any (λ e. e ≡ d) ds → AreClaimable counts (sheets s) claimed n → Carries shape d.cols (first d.root) claimed n (sheets s) (owns counts (sheets s) d.number.0) edits rows → IsBase counts (sheets (done (claims d.number.0 claimed n ++ map (write_of claimed) edits) s)) ds (finite.insert tables d.name (record { cols = d.cols; rows = rows })) }
+    ensures zero { (counts : List ℕ) (s : Slots) (ds : List TableDesc) (tables : Tables) (claimed : ℕ → PageId) (n : ℕ) (edits : List Edit) (rows : Rows) → IsBase counts (sheets s) ds tables → AreClaimable counts (sheets s) claimed n → Carries shape table_0 (first zero_root) claimed n (sheets s) (owns counts (sheets s) 0) edits rows → MayWriteAll counts s (claims 0 claimed n ++ map (write_of claimed) edits) × AreMine counts (is_of 0) s (claims 0 claimed n ++ map (write_of claimed) edits) × AreStanding counts (sheets (done (claims 0 claimed n ++ map (write_of claimed) edits) s)) rows ds tables }
 {}
 
 /// All claims are those from the first one on; pages that may be claimed are those of a plan of which none was claimed yet;

@@ -1,6 +1,6 @@
 -- A table's rows put into table 0, and cut from it.
-use Rattle.std.proofs.Common.{◌≡◌, ◌≢◌, ◌<◌, ◌≤◌, ◌+◌, ◌==◌, ℕ, zero, suc, Bool, true, false, cond, not, ◌||◌, List, [], ◌∷◌, ◌++◌, length, map, get_or, refl, sym, ap, subst, ◌∙◌, arith, append_assoc, nat_eq}
-use Rattle.std.specs.Prelude.{Option, Some, None}
+use Rattle.std.proofs.Common.{◌≡◌, ◌<◌, ◌≤◌, ◌+◌, ◌==◌, ℕ, zero, suc, Bool, true, false, cond, not, ◌||◌, List, [], ◌∷◌, ◌++◌, length, map, get_or, refl, sym, ap, subst, ◌∙◌, arith, append_assoc, nat_eq}
+use Rattle.std.specs.Prelude.{Some, None}
 use Rattle.std.specs.FinMap as finite
 use Rattle.std.specs.FinMap.{find, same_map, get-insert, get-remove, get-from_entries}
 use Rattle.std.specs.List.{flat_map, Any, AllByRecursion, IsDistinct}

@@ -1,5 +1,5 @@
 -- The names of table 0's columns are names.
-use Rattle.std.proofs.Common.{ℕ, List, [], ◌∷◌, refl}
+use Rattle.std.proofs.Common.{[], ◌∷◌, refl}
 use Rattle.page_base.specs.Name.{IsLowName}
 use Rattle.byte_fields.proofs.LowNames.{IsLowName-true}
 

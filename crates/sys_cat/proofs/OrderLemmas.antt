@@ -1,6 +1,6 @@
 -- The rows of tables in order of names stand in order of their keys, so they are one map.
-use Rattle.std.proofs.Common.{◌≡◌, ◌≢◌, ◌<◌, ◌≤◌, ◌+◌, ℕ, suc, Bool, true, false, cond, List, [], ◌∷◌, ◌++◌, length, map, refl, sym, ap, subst, ◌∙◌, arith, append_assoc}
-use Rattle.std.specs.Prelude.{Option, Some, None, pos, ◌<ℤ◌}
+use Rattle.std.proofs.Common.{◌≡◌, ◌<◌, ◌+◌, ℕ, List, [], ◌∷◌, ◌++◌, map, refl, sym, ap, subst, ◌∙◌, arith}
+use Rattle.std.specs.Prelude.{pos, ◌<ℤ◌}
 use Rattle.std.specs.FinMap as finite
 use Rattle.std.specs.FinMap.{put, same_entries_map, entries-insert, len-entries, len-empty}
 use Rattle.std.specs.List.{flat_map, AllByRecursion}
@@ -13,8 +13,7 @@ use Rattle.std.specs.declared.cmp.Ordering.TheVariants.{Less, Equal, Greater}
 use Rattle.std.proofs.lemmas.List.{map-append, nil_from_length}
 use Rattle.page_base.specs.declared.column.Column.{Column}
 use Rattle.page_base.specs.declared.value.Value.{Value}
-use Rattle.page_base.specs.declared.value.Value.TheVariants.{Int, Text}
-use Rattle.page_base.specs.Order.{value_cmp, key_cmp}
+use Rattle.page_base.specs.Order.{key_cmp}
 use Rattle.page_base.proofs.Ordered.{key_cmp_total}
 use Rattle.page_base.proofs.MapLemmas.{entries-from_entries}
 use Rattle.plain_model.specs.Tables.{Rows, key_of}

@@ -1,25 +1,23 @@
 -- Each row of a table fits into table 0, and is within its limits.
-use Rattle.std.proofs.Common.{◌≡◌, ◌≢◌, ◌<◌, ◌≤◌, ◌+◌, ◌^◌, ◌==◌, ◌||◌, ◌&&◌, not, ◌∙◌, ℕ, Bool, true, false, List, [], ◌∷◌, ◌++◌, length, get_or, refl, sym, ap, arith}
-use Rattle.std.specs.Prelude.{pos, Option, None, Some, All, FitsSigned, nat_le}
+use Rattle.std.proofs.Common.{◌≡◌, ◌<◌, ◌≤◌, ◌+◌, ◌==◌, ◌||◌, not, ◌∙◌, ℕ, true, List, [], ◌∷◌, length, get_or, ap, arith}
+use Rattle.std.specs.Prelude.{pos, Option, None, Some, All, FitsSigned}
 use Rattle.std.specs.Int.{w32}
-use Rattle.std.specs.Char.{is_ascii_alphanumeric}
 use Rattle.std.specs.List.{list_all, AllByRecursion}
 use Rattle.std.proofs.lemmas.Bool.{and_parts}
 use Rattle.std.proofs.lemmas.Bool.Decides.{nat_tests}
 use Rattle.std.proofs.lemmas.List.{append-nil}
 use Rattle.std.proofs.lemmas.List.Elements.{All-from_recursion}
 use Rattle.page_base.specs.declared.column.Column.{Column}
-use Rattle.page_base.specs.declared.value.Value.{Value}
 use Rattle.page_base.specs.declared.value.Value.TheVariants.{Int, Text}
 use Rattle.page_base.specs.Name.{IsLowName, is_name_byte}
 use Rattle.plain_model.specs.Sound.{is_type, is_column, is_definition}
-use Rattle.row_fmt.specs.Rows.{is_text_byte, IsText, FitsColumns, IsRowOf, InRange, row_bytes}
+use Rattle.row_fmt.specs.Rows.{is_text_byte, IsText, FitsColumns, InRange, row_bytes}
 use Rattle.row_fmt.specs.Keys.{key_bytes}
-use Rattle.row_fmt.proofs.SizeLemmas.{int_size, text_size, values_size, values_size-cons, row_size, key_size_is}
-use Rattle.table_walk.specs.Tables.{MayPut, IsSmall}
+use Rattle.row_fmt.proofs.SizeLemmas.{int_size, text_size, values_size-cons, row_size, key_size_is}
+use Rattle.table_walk.specs.Tables.{MayPut}
 use Rattle.sys_cat.specs.declared.desc.TableDesc.{TableDesc}
 use Rattle.sys_cat.specs.declared.line.Line.{Line}
-use Rattle.sys_cat.specs.Rows.{table_0, row_of, table_row, column_row, column_rows, rows_of}
+use Rattle.sys_cat.specs.Rows.{table_0, column_rows, rows_of}
 use Rattle.sys_cat.specs.Lines.{IsLine, IsText as IsLineText, line_row, text_bytes, table_line, column_line}
 use Rattle.sys_cat.specs.Lists.{IsHead, AreNamed}
 use Rattle.sys_cat.specs.Growing.{top, span}
