@@ -1,17 +1,15 @@
 -- A page more is among those that are kept.
-use Rattle.std.proofs.Common.{◌≡◌, ◌≢◌, ℕ, ◌+◌, ◌<◌, inl, inr, Bool, true, false, cond, ◌||◌, ◌∷◌, ◌++◌, [], ap, sym, ◌∙◌, subst, arith}
+use Rattle.std.proofs.Common.{◌≡◌, ◌≢◌, ℕ, ◌+◌, ◌<◌, inl, inr, Bool, true, false, cond, ◌||◌, ap, sym, ◌∙◌, subst, arith}
 use Rattle.page_base.specs.declared.numbers.PageId.{PageId}
 use Rattle.page_base.specs.declared.numbers.SnapNo.{SnapNo}
-use Rattle.page_base.specs.Pages.{is_page}
 use Rattle.page_base.proofs.PagesLemmas.{cases_page, is_page-same, is_page-other}
 use Rattle.buf_pool.specs.Pool.{with_pin}
 use Rattle.snap_pages.specs.Shown.{Shown, pins, IsPinned}
 use Rattle.snap_pages.specs.Dues.{IsPushed}
-use Rattle.snap_pages.proofs.PinLemmas.{pin_unpin}
+use Rattle.snap_pages.proofs.PinLemmas.{pin_unpin, pinned_more}
 use Rattle.revert_pass.specs.Got.{Got, has, ungathered, AreHeld, AreGotPushed}
 use Rattle.revert_pass.specs.Gathers.{Adds}
 use Rattle.revert_pass.proofs.GotLemmas.{has_last, pins_last}
-use Rattle.revert_pass.proofs.ShowLemmas.{pinned_more}
 
 or_no : (a : Bool) → (a || false) ≡ a
 or_no true = λ i. true
@@ -28,7 +26,7 @@ module _ (s : SnapNo) (p : PageId) (old new : Shown) (got more : Got) (adds : Ad
     | inl e ↦
         let here : with_pin (pins old) p p ≡ pins old p + 1 = ap (λ b. cond b (pins old p + 1) (pins old p)) (is_page-same p) in
         subst (λ (x : PageId). IsPinned new x) (sym e) (subst (λ n. 0 < n) (sym ((λ i. pinned i p) ∙ here)) (omega arith))
-    | inr ne ↦ pinned_more old new p pinned q (held q (was_kept q ne h))
+    | inr ne ↦ pinned_more (pins old) (pins new) p pinned q (held q (was_kept q ne h))
   ]
 
   pub pushed_more : AreGotPushed got new → IsPushed new p → AreGotPushed more new

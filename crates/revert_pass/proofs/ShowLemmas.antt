@@ -1,17 +1,16 @@
 -- What is shown stays, call by call, while a page is gathered.
-use Rattle.std.proofs.Common.{◌≡◌, ◌≢◌, ℕ, ◌+◌, ◌<◌, ◌≤◌, Bool, true, false, cond, IsTrue, List, Result, Ok, Err, refl, ap, sym, ◌∙◌, subst, arith}
+use Rattle.std.proofs.Common.{◌≡◌, ◌≢◌, ◌<◌, ◌≤◌, List, Result, Ok, Err, ap, sym, ◌∙◌, subst, arith}
 use Rattle.std.specs.Prelude.{OnErr}
 use Rattle.page_base.specs.declared.numbers.PageId.{PageId}
 use Rattle.page_base.specs.declared.numbers.SnapNo.{SnapNo}
-use Rattle.page_base.specs.Pages.{is_page}
 use Rattle.page_dev.specs.Files.{Files}
 use Rattle.page_dev.specs.Faults.{total}
-use Rattle.buf_pool.specs.Pool.{Pooled, with_pin, img as pool_img, pins as pool_pins}
+use Rattle.buf_pool.specs.Pool.{Pooled, img as pool_img}
 use Rattle.buf_pool.specs.Steps.{Stays, PinsOnce, SameShown}
 use Rattle.sparse_set.specs.Sparse.{Sparse}
 use Rattle.snap_cat.specs.Catalog.{Catalog, snap_at}
 use Rattle.snap_cat.specs.declared.snapshot.SnapState.TheVariants.{Suspect}
-use Rattle.snap_pages.specs.Shown.{Shown, img, pins, set_of, IsPinned}
+use Rattle.snap_pages.specs.Shown.{Shown, pins, set_of, IsPinned}
 use Rattle.snap_pages.specs.Views.{KeepsViews}
 use Rattle.snap_pages.specs.Dues.{NoneNewDue}
 use Rattle.snap_pages.specs.Steps.{SameSnaps, SamePlaces, ChangesSet}
@@ -30,29 +29,63 @@ module _ (s : SnapNo) (old new : Shown) (places : SamePlaces old new) (views : K
 
     pub show_stays : Stays old.pool new.pool → ShowsSame s old new
     show_stays stays = record {
-      images = stays.images; held = stays.held; tells = stays.tells; frames = stays.frames; later = stays.later; cat = snaps.cat;
-      sets = λ k ne. set_same k; map = ap (λ (x : Sparse). x.map) (set_same s); places = places; views = views; dues = none_due;
+      images = stays.images;
+      held = stays.held;
+      tells = stays.tells;
+      frames = stays.frames;
+      later = stays.later;
+      cat = snaps.cat;
+      sets = λ k ne. set_same k;
+      map = ap (λ (x : Sparse). x.map) (set_same s);
+      places = places;
+      views = views;
+      dues = none_due;
     }
 
     pub show_once : (p : PageId) → PinsOnce p old.pool new.pool → ShowsSame s old new
     show_once p once = record {
-      images = once.images; held = once.held; tells = once.tells; frames = once.frames; later = once.later; cat = snaps.cat;
-      sets = λ k ne. set_same k; map = ap (λ (x : Sparse). x.map) (set_same s); places = places; views = views; dues = none_due;
+      images = once.images;
+      held = once.held;
+      tells = once.tells;
+      frames = once.frames;
+      later = once.later;
+      cat = snaps.cat;
+      sets = λ k ne. set_same k;
+      map = ap (λ (x : Sparse). x.map) (set_same s);
+      places = places;
+      views = views;
+      dues = none_due;
     }
 
     pub show_unpinned : SameShown old.pool new.pool → ShowsSame s old new
     show_unpinned shown = record {
-      images = λ _. shown.images; held = λ q _ i. shown.images i q; tells = ap (λ (f : Files). f.tells) shown.files; frames = shown.frames;
-      later = subst (λ (f : Files). total old.pool.files.failures ≤ total f.failures) (sym shown.files) (omega arith); cat = snaps.cat;
-      sets = λ k ne. set_same k; map = ap (λ (x : Sparse). x.map) (set_same s); places = places; views = views; dues = none_due;
+      images = λ _. shown.images;
+      held = λ q _ i. shown.images i q;
+      tells = ap (λ (f : Files). f.tells) shown.files;
+      frames = shown.frames;
+      later = subst (λ (f : Files). total old.pool.files.failures ≤ total f.failures) (sym shown.files) (omega arith);
+      cat = snaps.cat;
+      sets = λ k ne. set_same k;
+      map = ap (λ (x : Sparse). x.map) (set_same s);
+      places = places;
+      views = views;
+      dues = none_due;
     }
 
   -- its sparse file was read
   pub show_read : ChangesSet s old new → (set_of new s).map ≡ (set_of old s).map → ((q : PageId) → NoneNewDue old new q) → ShowsSame s old new
   show_read only map dues = record {
-    images = λ _. ap pool_img only.pool; held = λ q _ i. pool_img (only.pool i) q; tells = ap (λ (x : Pooled). x.files.tells) only.pool; frames = ap (λ (x : Pooled). x.frames) only.pool;
-    later = subst (λ (x : Pooled). total old.pool.files.failures ≤ total x.files.failures) (sym only.pool) (omega arith); cat = only.cat;
-    sets = only.others; map = map; places = places; views = views; dues = dues;
+    images = λ _. ap pool_img only.pool;
+    held = λ q _ i. pool_img (only.pool i) q;
+    tells = ap (λ (x : Pooled). x.files.tells) only.pool;
+    frames = ap (λ (x : Pooled). x.frames) only.pool;
+    later = subst (λ (x : Pooled). total old.pool.files.failures ≤ total x.files.failures) (sym only.pool) (omega arith);
+    cat = only.cat;
+    sets = only.others;
+    map = map;
+    places = places;
+    views = views;
+    dues = dues;
   }
 
 -- one after the other, where no pin was taken back
@@ -70,14 +103,6 @@ show_on s a b c pinned one two = record {
   views = keeps_on a b c one.views two.views;
   dues = λ q. dues_on a b c q (one.dues q) (two.dues q);
 }
-
-more : (b : Bool) (n : ℕ) → 0 < n → 0 < cond b (n + 1) n
-more true n h = omega arith
-more false n h = h
-
--- a pin more leaves what is pinned
-pub pinned_more : (a b : Shown) (p : PageId) → pins b ≡ with_pin (pins a) p → (q : PageId) → IsPinned a q → IsPinned b q
-pinned_more a b p is q h = subst (λ n. 0 < n) (sym (λ i. is i q)) (more (is_page p q) (pins a q) h)
 
 pub pinned_same : (a b : Shown) → pins b ≡ pins a → (q : PageId) → IsPinned a q → IsPinned b q
 pinned_same a b is q h = subst (λ n. 0 < n) (sym (λ i. is i q)) h

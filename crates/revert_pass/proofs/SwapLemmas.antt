@@ -1,21 +1,17 @@
 -- The pages that were gathered are swapped in, or let go, one after the other from the last on.
-use Rattle.std.proofs.Common.{◌≡◌, ◌≢◌, ℕ, ◌-◌, ◌<◌, inl, inr, true, false, cond, List, [], ◌∷◌, ◌++◌, refl, ap, sym, ◌∙◌, subst}
+use Rattle.std.proofs.Common.{◌≡◌, ℕ, ◌-◌, ◌<◌, inl, inr, cond, List, [], ◌∷◌, ◌++◌, refl, ap, sym, ◌∙◌, subst}
 use Rattle.std.proofs.lemmas.Bool.{false≢true}
 use Rattle.page_base.specs.declared.numbers.PageId.{PageId}
-use Rattle.page_base.specs.declared.numbers.SnapNo.{SnapNo}
-use Rattle.page_base.specs.Pages.{is_page, set_at}
+use Rattle.page_base.specs.Pages.{set_at}
 use Rattle.page_base.proofs.PagesLemmas.{cases_page, is_page-other}
 use Rattle.page_fmt.specs.Content.{IsPage}
 use Rattle.buf_pool.specs.Pool.{without_pin}
 use Rattle.buf_pool.specs.Steps.{SameShown, SameHolds}
-use Rattle.sparse_set.specs.Sparse.{Sparse, is_copied}
-use Rattle.snap_cat.specs.Catalog.{Catalog, snap_at}
-use Rattle.snap_cat.specs.declared.snapshot.SnapState.TheVariants.{Suspect}
-use Rattle.snap_pages.specs.Shown.{Shown, img, pins, set_of, IsPinned}
+use Rattle.snap_pages.specs.Shown.{Shown, img, pins, IsPinned}
 use Rattle.snap_pages.specs.Views.{KeepsViews}
 use Rattle.snap_pages.specs.Dues.{IsPushed}
 use Rattle.snap_pages.specs.Steps.{SameSnaps, SamePlaces}
-use Rattle.snap_pages.proofs.CallerLemmas.{keeps_on, keeps_none}
+use Rattle.snap_pages.proofs.CallerLemmas.{keeps_on, keeps_none, pushed_on}
 use Rattle.revert_pass.specs.Got.{Got, IsGot, has, swapped, ungathered, AreHeld, AreGotPushed, LeavesRest}
 use Rattle.revert_pass.proofs.GotLemmas.{IsLastOf, last_of, swap_last, pins_last, has_still, has_it}
 
@@ -39,12 +35,6 @@ rest_set a b holds snaps places views = record { order = holds.order; files = ho
 
 pub rest_unpinned : (a b : Shown) → SameShown a.pool b.pool → SameSnaps a b → SamePlaces a b → KeepsViews a b → LeavesRest a b
 rest_unpinned a b shown snaps places views = record { order = shown.order; files = shown.files; frames = shown.frames; snaps = snaps; places = places; views = views }
-
--- a page that no snapshot lacks is none that one lacks later
-pushed_on : (a b : Shown) (p : PageId) → SameSnaps a b → IsPushed a p → IsPushed b p
-pushed_on a b p same pushed s sound =
-    subst (λ (x : List Sparse). is_copied (set_of (record a { sets = x }) s) p ≡ true) (sym same.sets)
-    (pushed s (subst (λ (c : Catalog). (snap_at c s).state ≢ Suspect) same.cat sound))
 
 -- THE PINS
 

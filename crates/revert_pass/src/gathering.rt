@@ -17,7 +17,12 @@ use snap_pages::SnapPages;
 use std::alloc::Global;
 
 // Reads the snapshot's copy of a page.
-fn read_copy<P: PageFile>(pages: &mut SnapPages<P>, s: SnapNo, p: PageId, into: &mut Image) -> Result<(), RevertRefusal>
+fn read_copy<P: PageFile>(
+    pages: &mut SnapPages<P>,
+    s: SnapNo,
+    p: PageId,
+    into: &mut Image,
+) -> Result<(), RevertRefusal>
     requires snap { IsOpen pages.old s }
     requires there { IsThere pages.old p }
     requires copied { is_copied (set_of pages.old s) p ≡ true }
@@ -38,7 +43,13 @@ fn read_copy<P: PageFile>(pages: &mut SnapPages<P>, s: SnapNo, p: PageId, into: 
 }
 
 // Pins a source page and reads the snapshot's copy of it; where that is refused the pin is taken back.
-fn pin_and_read<P: PageFile>(alloc: Global, pages: &mut SnapPages<P>, s: SnapNo, p: PageId, into: &mut Image) -> Result<(), RevertRefusal>
+fn pin_and_read<P: PageFile>(
+    alloc: Global,
+    pages: &mut SnapPages<P>,
+    s: SnapNo,
+    p: PageId,
+    into: &mut Image,
+) -> Result<(), RevertRefusal>
     requires snap { IsOpen pages.old s }
     requires there { IsThere pages.old p }
     requires copied { is_copied (set_of pages.old s) p ≡ true }

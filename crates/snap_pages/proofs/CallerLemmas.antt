@@ -1,11 +1,15 @@
 -- What callers join: the effects of calls one after the other, and that pushes go upward.
-use Rattle.std.proofs.Common.{◌<◌, inl, inr, ◌∙◌, arith, subst, refl}
+use Rattle.std.proofs.Common.{◌≡◌, ◌≢◌, ◌<◌, inl, inr, true, List, ◌∙◌, sym, arith, subst, refl}
 use Rattle.std.proofs.lemmas.Bool.{cases_eq, cases_lt}
 use Rattle.page_base.specs.declared.numbers.PageId.{PageId}
 use Rattle.page_base.specs.declared.numbers.SnapNo.{SnapNo}
-use Rattle.snap_pages.specs.Shown.{Shown}
+use Rattle.sparse_set.specs.Sparse.{Sparse, is_copied}
+use Rattle.snap_cat.specs.Catalog.{Catalog, snap_at}
+use Rattle.snap_cat.specs.declared.snapshot.SnapState.TheVariants.{Suspect}
+use Rattle.snap_pages.specs.Shown.{Shown, set_of}
 use Rattle.snap_pages.specs.Views.{KeepsViews}
-use Rattle.snap_pages.specs.Dues.{IsDue, IsFirstDue, NoneNewDue}
+use Rattle.snap_pages.specs.Dues.{IsDue, IsPushed, IsFirstDue, NoneNewDue}
+use Rattle.snap_pages.specs.Steps.{SameSnaps}
 
 -- views that two calls keep, one after the other
 pub keeps_on : (a b c : Shown) → KeepsViews a b → KeepsViews b c → KeepsViews a c
@@ -28,3 +32,9 @@ next_is_later a b p s t first none done next =
         | inr ne ↦ absurd (first.first t (omega arith) due)
       ]
     ]
+
+-- a page that no snapshot lacks is none that one lacks later, where the snapshots stay
+pub pushed_on : (a b : Shown) (p : PageId) → SameSnaps a b → IsPushed a p → IsPushed b p
+pushed_on a b p same pushed s sound =
+    subst (λ (x : List Sparse). is_copied (set_of (record a { sets = x }) s) p ≡ true) (sym same.sets)
+    (pushed s (subst (λ (c : Catalog). (snap_at c s).state ≢ Suspect) same.cat sound))

@@ -96,3 +96,11 @@ more_there false n e = absurd (false≢true e)
 -- a page that was fetched is pinned
 pub once_pinned : (old new : Pooled) (p : PageId) → PinsOnce p old new → IsPinned new p
 once_pinned old new p once = subst (λ n. 0 < n) (sym (λ i. once.pinned i p)) (more_there (is_page p p) (pool_pins old p) (is_page-same p))
+
+one_more : (b : Bool) (n : ℕ) → 0 < n → 0 < cond b (n + 1) n
+one_more true n h = omega arith
+one_more false n h = h
+
+-- a pin more leaves what is pinned
+pub pinned_more : (f h : PageId → ℕ) (p : PageId) → h ≡ with_pin f p → (q : PageId) → 0 < f q → 0 < h q
+pinned_more f h p is q lt = subst (λ n. 0 < n) (sym (λ i. is i q)) (one_more (is_page p q) (f q) lt)

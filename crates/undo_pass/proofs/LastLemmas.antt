@@ -1,5 +1,5 @@
 -- A list that ends in one element.
-use Rattle.std.proofs.Common.{◌≡◌, ◌+◌, List, [], ◌∷◌, ◌++◌, length, get_or, ◌≤◌, subst, ap, sym, ◌∙◌, arith}
+use Rattle.std.proofs.Common.{◌≡◌, ◌≢◌, ◌+◌, List, [], ◌∷◌, ◌++◌, length, get_or, ◌≤◌, subst, ap, sym, ◌∙◌, arith}
 use Rattle.std.proofs.lemmas.List.{append_cancel_right}
 use Rattle.std.proofs.Math.Seq.{get_or-append_seam}
 use Rattle.std.proofs.Math.ListN.{length-append}
@@ -22,6 +22,13 @@ last_same front other r q e =
 
 pub front_same : (front other : List Record) (r q : Record) → front ++ r ∷ [] ≡ other ++ q ∷ [] → front ≡ other
 front_same front other r q e = append_cancel_right front other (r ∷ []) (e ∙ ap (λ (x : Record). other ++ x ∷ []) (sym (last_same front other r q e)))
+
+-- records that end in one are some
+pub some_last : (records front : List Record) (r : Record) → records ≡ front ++ r ∷ [] → records ≢ []
+some_last records front r e none =
+    let one : length (front ++ r ∷ []) ≡ length front + 1 = length-append front (r ∷ []) in
+    let same : length (front ++ r ∷ []) ≡ 0 = ap (λ (l : List Record). length l) (sym e ∙ none) in
+    absurd (omega arith)
 
 -- the page of a record that is owed is pinned, and so it is there
 pub last_there : (v : Shown) (s : SnapNo) (front : List Record) (r : Record) → owes_of v s ≡ front ++ r ∷ [] → AreOwed v s → ((p : PageId) → IsPinned v p → IsThere v p × IsPage (img v p)) → IsThere v r.page

@@ -5,6 +5,8 @@ mod backing;
 mod healing;
 mod law;
 mod refusal;
+#[cfg(test)]
+mod tests;
 
 pub use backing::back;
 pub use healing::heal;

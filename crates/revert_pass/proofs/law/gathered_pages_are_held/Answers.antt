@@ -1,5 +1,4 @@
 -- The page that came is the one that was pinned.
-use Rattle.std.proofs.Common.{◌≡◌, true, false, sym, ◌∙◌}
 use Rattle.std.proofs.lemmas.Bool.{false≢true}
 use Rattle.revert_pass.proofs.HeldLemmas.{held_more, pins_let_go, pushed_more}
 use Rattle.revert_pass.proofs.law.gathered_pages_are_held.Goals as goal

@@ -2,7 +2,7 @@
 use Rattle.std.proofs.Common.{◌≡◌, ◌<◌, ℕ, ◌∷◌, ◌++◌, [], ap, sym, ◌∙◌, subst}
 use Rattle.page_base.specs.declared.numbers.PageId.{PageId}
 use Rattle.buf_pool.specs.Pool.{without_pin}
-use Rattle.snap_pages.specs.Shown.{img, pins, IsPinned}
+use Rattle.snap_pages.specs.Shown.{img, pins}
 use Rattle.revert_pass.specs.Got.{Got, ungathered, swapped}
 use Rattle.revert_pass.proofs.GotLemmas.{emptied}
 use Rattle.revert_pass.proofs.SwapLemmas.{Swapping, holds_pinned, rest_on, rest_set, rest_unpinned, swaps_less, swaps_page, swaps_pushed}

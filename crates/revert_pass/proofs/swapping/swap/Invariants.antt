@@ -1,4 +1,3 @@
-use Rattle.std.proofs.Common.{length}
 use Rattle.revert_pass.proofs.SwapLemmas.{Swapping}
 use Rattle.revert_pass.proofs.swapping.swap.Given as goal
 

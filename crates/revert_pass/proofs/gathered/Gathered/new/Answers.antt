@@ -1,5 +1,5 @@
 -- No page is kept twice where none is.
-use Rattle.std.proofs.Common.{◌≡◌, List, sym, subst}
+use Rattle.std.proofs.Common.{sym, subst}
 use Rattle.revert_pass.specs.Got.{Got, IsGot}
 use Rattle.revert_pass.proofs.GotLemmas.{got_none}
 use Rattle.revert_pass.proofs.gathered.Gathered.new.Goals as goal
