@@ -68,7 +68,7 @@ names_apart ds a = AllPairs-from_IsDistinct decides (map (λ d. d.name) ds) (IsD
 numbers_apart : (ds : List TableDesc) → AreDescs ds → AllPairs (λ (x y : ℕ). x ≢ y) (map (λ d. d.number.0) ds)
 numbers_apart ds a = AllPairs-from_IsDistinct Decides-eqb (map (λ d. d.number.0) ds) a.numbers
 
-each_desc : (ds : List TableDesc) → AllByRecursion IsDesc ds → (k : ℕ) (d : TableDesc) → k < length ds → IsDesc (get_or ds k d)
+pub each_desc : (ds : List TableDesc) → AllByRecursion IsDesc ds → (k : ℕ) (d : TableDesc) → k < length ds → IsDesc (get_or ds k d)
 each_desc [] a k d h = absurd (omega arith)
 each_desc (e ∷ ds) a zero d h = a.0
 each_desc (e ∷ ds) a (suc k) d h = each_desc ds a.1 k d (omega arith)
@@ -91,7 +91,7 @@ module _ (claimed : ℕ → PageId) (n : ℕ) (mine : PageId → Bool) where
 module _ (counts : List ℕ) (at : SlotsAt) (spread : (a : PageId) → IsAllocPage counts a → IsSpread counts at a) (d : TableDesc) (small : d.number.0 + 1 < 4294967295) (claimed : ℕ → PageId) (n : ℕ) (c : AreClaimable counts at claimed n) (edits : List Edit) (rows : Rows)
     (plan : Carries shape d.cols (first d.root) claimed n at (owns counts at d.number.0) edits rows) where
   -- a page of the table, or one that is claimed, is no allocation page
-  mine_off : (q : PageId) → also (owns counts at d.number.0) claimed n q ≡ true → q.page % 1280 ≢ 0
+  pub mine_off : (q : PageId) → also (owns counts at d.number.0) claimed n q ≡ true → q.page % 1280 ≢ 0
   mine_off q m = elim (cases_Bool (is_claimed claimed n q)) [
     | inl t ↦
         let i = claim_of counts d.number.0 claimed small n q t in
@@ -273,7 +273,7 @@ module _ (counts : List ℕ) (at : SlotsAt) (ds : List TableDesc) (tables : Tabl
 
 -- A PLAN OF TABLE 0
 
-abbrev zero_desc : TableDesc
+abbrev pub zero_desc : TableDesc
 zero_desc = record { name = []; number = record { 0 = 0 }; root = zero_root; cols = table_0 }
 
 module _ (counts : List ℕ) (at : SlotsAt) (ds : List TableDesc) (tables : Tables) (b : IsBase counts at ds tables) (claimed : ℕ → PageId) (n : ℕ) (c : AreClaimable counts at claimed n) (edits : List Edit) (rows : Rows)

@@ -111,3 +111,8 @@ sheets_of_pages at full few = λ k p. at_page p k
       | inl lt ↦ slot_of_sheet (slots_in at) p j lt
       | inr ge ↦ past_sheet (slots_in at) p j ge ∙ sym (get_or_past (at p) j [] (omega (arith, few p, ge)))
     ])
+
+-- a page of the same slots has the same sheet
+pub sheet_same : (s t : Slots) (p : PageId) → s p ≡ t p → sheets s p ≡ sheets t p
+unfolding sheets
+sheet_same s t p e = ap (λ f. trimmed (first_slots f MAX_SLOTS)) e

@@ -19,7 +19,7 @@ pub done_both : (xs ys : List Write) (s : Slots) → done (xs ++ ys) s ≡ done 
 done_both [] ys s = refl
 done_both (x ∷ xs) ys s = done_both xs ys (with_slot s x.page x.slot x.bytes)
 
-few_slots : (p : PageId) → p.page % 1280 < MAX_SLOTS
+pub few_slots : (p : PageId) → p.page % 1280 < MAX_SLOTS
 few_slots p = omega arith
 
 pub claims_done : (number : ℕ) (claimed : ℕ → PageId) (n : ℕ) (s : Slots) → sheets (done (claims number claimed n) s) ≡ with_claims number claimed n (sheets s)

@@ -2,9 +2,11 @@
 #![tactic(auto)]
 
 mod law;
+mod mine;
 
 pub use law::{
     a_plan_is_one_of_the_database, a_plan_of_table_0_leaves_the_tables, bases_are_one,
     claims_give_their_pages, sheets_are_pages, tables_depend_on_their_pages,
     writes_are_claims_and_edits,
 };
+pub use mine::{a_plan_is_written, claims_come_in_turn, writes_leave_the_rest};
