@@ -14,9 +14,13 @@ byte_at (b ∷ rest) = Ok (b, rest)
 unfoldable pub number_at : ℕ → List ℕ → Read ℕ
 number_at size bytes = if nat_lt (length bytes) size then Err bytes else Ok (number_in size bytes, drop size bytes)
 
+-- the page whose address the first five bytes are
+abbrev pub page_in : List ℕ → PageId
+page_in bytes = record { file = slice_index bytes 0; page = number_in 4 (drop 1 bytes) }
+
 -- which page
 unfoldable pub address_at : List ℕ → Read PageId
-address_at bytes = if nat_lt (length bytes) 5 then Err bytes else Ok (record { file = slice_index bytes 0; page = number_in 4 (drop 1 bytes) }, drop 5 bytes)
+address_at bytes = if nat_lt (length bytes) 5 then Err bytes else Ok (page_in bytes, drop 5 bytes)
 
 -- so many bytes behind a length of some size
 abbrev pub text_of : ℕ → ℕ → List ℕ → Read (List ℕ)

@@ -9,6 +9,6 @@ mod tests;
 mod writing;
 
 pub use law::fields_are_read;
-pub use reader::Reader;
+pub use reader::{Reader, page_in};
 pub use stop::Stop;
-pub use writing::{put_address, put_name, put_short, put_text, put_u16, put_u32, put_u64};
+pub use writing::{address, put_address, put_name, put_short, put_text, put_u16, put_u32, put_u64};

@@ -1,13 +1,25 @@
 //! One field after the other, read from the front of bytes; a reader stands at the first byte that isn't read yet.
 
-ghost use Rattle.std.specs.Prelude.{◌≡◌, ◌-◌, ◌↔◌, [], length, IsTrue, OnErr};
+ghost use Rattle.std.specs.Prelude.{◌≡◌, ◌-◌, ◌≤◌, ◌↔◌, [], length, IsTrue, OnErr};
 ghost use Rattle.byte_fields.specs.Answers.{Gives};
-ghost use Rattle.byte_fields.specs.Reading.{byte_at, number_at, address_at, sized_at, short_at, name_at};
+ghost use Rattle.byte_fields.specs.Reading.{byte_at, number_at, page_in, address_at, sized_at, short_at, name_at};
 
 use crate::Stop;
 use byteorder::{ByteOrder, LittleEndian};
 use page_base::{Name, PageId};
 use std::marker::Model;
+
+/// The page whose address the first five bytes are. Takes no memory.
+#[tactic(auto, unfolding(crate::specs::Numbers::number_in))]
+pub fn page_in(bytes: &[u8]) -> PageId
+    requires { 5 ≤ length bytes.now }
+    ensures { result ≡ page_in bytes.now }
+{
+    PageId {
+        file: bytes[0],
+        page: LittleEndian::read_u32(&bytes[1..]),
+    }
+}
 
 /// The bytes that are still to be read. A call that refuses a field leaves them as they are.
 #[derive(Debug, Drop)]
@@ -122,7 +134,7 @@ impl<'a> Reader<'a> {
     }
 
     /// The address of a page in five bytes. `Form` exactly where there are fewer.
-    #[tactic(auto, unfolding(crate::specs::Reading::address_at, crate::specs::Numbers::number_in))]
+    #[tactic(auto, unfolding(crate::specs::Reading::address_at))]
     pub fn address(&mut self) -> Result<PageId, Stop>
         ensures read { Gives (λ p. p) result self.new (address_at self.old) }
         ensures stays { OnErr result (self.new ≡ self.old) }
@@ -130,10 +142,9 @@ impl<'a> Reader<'a> {
         if self.rest.len() < 5 {
             return Err(Stop::Form);
         }
-        let file = self.rest[0];
-        let page = LittleEndian::read_u32(&self.rest[1..]);
+        let page = page_in(self.rest);
         self.rest = &self.rest[5..];
-        Ok(PageId { file, page })
+        Ok(page)
     }
 
     /// A text with its length in two bytes in front. `Form` exactly where there are fewer bytes.

@@ -41,13 +41,23 @@ pub fn put_u64(out: &mut Vec<u8>, n: u64) -> Result<(), NoMemory>
     Ok(())
 }
 
+/// The address of a page, in five bytes. Takes no memory.
+#[tactic(auto, unfolding(crate::specs::Numbers::number))]
+pub fn address(page: PageId) -> [u8; 5]
+    ensures { result ≡ address page }
+{
+    let mut bytes = [page.file, 0, 0, 0, 0];
+    LittleEndian::write_u32(&mut bytes[1..], page.page);
+    bytes
+}
+
 /// Puts the address of a page behind the others, in five bytes.
 pub fn put_address(out: &mut Vec<u8>, page: PageId) -> Result<(), NoMemory>
     ensures ok { OnOk result (out.new.items ≡ out.old.items ++ address page) }
     ensures number { page.page < 2 ^ 32 }
 {
-    out.push(page.file)?;
-    put_u32(out, page.page)
+    out.extend_from_slice(&address(page))?;
+    Ok(())
 }
 
 /// Puts a text behind the others, its length in two bytes in front.

@@ -7,7 +7,7 @@ ghost use Rattle.tree_laws.specs.Kids.{child_at, named, level_of};
 
 use crate::keys::decode_key;
 use byteorder::{ByteOrder, LittleEndian};
-use page_base::{Columns, NoMemory, PageId};
+use page_base::{Columns, MAX_KEY_BYTES, NoMemory, PageId};
 use page_fmt::Seen;
 use std::alloc::Global;
 use table_walk::{SeenRefusal, page_at};
@@ -48,6 +48,9 @@ fn child_at(
             page,
             slot,
         }));
+    }
+    if rest.len() > MAX_KEY_BYTES {
+        return Ok(None);
     }
     match decode_key(alloc, keys, rest)? {
         Some(least) => Ok(Some(Child {

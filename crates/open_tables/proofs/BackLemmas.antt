@@ -1,5 +1,5 @@
 -- Records that can be taken back, among the owners of pages.
-use Rattle.std.proofs.Common.{◌≡◌, ℕ, ◌%◌, ◌≤◌, Bool, true, false, cond, ◌==◌, ◌&&◌, ◌||◌, List, [], ◌∷◌, ◌++◌, length, refl, ap, sym, subst, ◌∙◌, eqb-true, inl, inr, arith}
+use Rattle.std.proofs.Common.{◌≡◌, ◌≢◌, ℕ, ◌%◌, ◌≤◌, Bool, true, false, cond, ◌==◌, ◌&&◌, ◌||◌, List, [], ◌∷◌, ◌++◌, length, refl, ap, sym, subst, ◌∙◌, eqb-true, inl, inr, arith}
 use Rattle.std.specs.Prelude.{◌⊎◌}
 use Rattle.std.proofs.lemmas.Bool.{and_parts}
 use Rattle.page_base.specs.declared.numbers.PageId.{PageId}
@@ -66,7 +66,7 @@ module _ (writes : ℕ → Bool) where
   )
 
   -- an owner is what it was, or the page was claimed and is free
-  back_one : (rs : List Record) (s : Slots) (q : PageId) → AreClaims rs → (page_owner (undone rs s) q ≡ page_owner s q) ⊎ (page_owner (undone rs s) q ≡ 0)
+  pub back_one : (rs : List Record) (s : Slots) (q : PageId) → AreClaims rs → (page_owner (undone rs s) q ≡ page_owner s q) ⊎ (page_owner (undone rs s) q ≡ 0)
   back_one [] s q c = inl refl
   back_one (r ∷ rs) s q c = go (is_page r.page (spot_of q).page && r.slot == (spot_of q).slot) refl (back_one rs s q c.1)
     where
@@ -76,7 +76,7 @@ module _ (writes : ℕ → Bool) where
       go false e rest = rest
 
   -- what holds of an owner once records are taken back held before
-  was_written : (rs : List Record) (s : Slots) (q : PageId) → writes 0 ≡ false → Back writes rs s → writes (page_owner (undone rs s) q) ≡ true → writes (page_owner s q) ≡ true
+  pub was_written : (rs : List Record) (s : Slots) (q : PageId) → writes 0 ≡ false → Back writes rs s → writes (page_owner (undone rs s) q) ≡ true → writes (page_owner s q) ≡ true
   was_written rs s q none b e = elim (back_one rs s q (claims rs s b)) [
     | inl same ↦ ap writes (sym same) ∙ e
     | inr free ↦ absurd (differ (writes 0) (ap writes (sym free) ∙ e) none)
@@ -102,16 +102,17 @@ module _ (writes : ℕ → Bool) where
                 was_written rs s q none b.0 (ap (λ o. writes (page_owner (undone rs s) o)) (sym is) ∙ c.3)
           ]
 
-  pub edits : (rs : List Record) (s : Slots) → writes 0 ≡ false → Back writes rs s → (p : PageId) (i : ℕ) → names rs p i ≡ true → (writes (page_owner s p) ≡ true) ⊎ ((q : PageId) × ((spot_of q).page ≡ p) × ((spot_of q).slot ≡ i))
+  pub edits : (rs : List Record) (s : Slots) → writes 0 ≡ false → Back writes rs s → (p : PageId) (i : ℕ) → names rs p i ≡ true → ((p.page % 1280 ≢ 0) × (writes (page_owner s p) ≡ true)) ⊎ ((q : PageId) × ((spot_of q).page ≡ p) × ((spot_of q).slot ≡ i))
   edits [] s none b p i e = absurd (differ false e refl)
   edits (r ∷ rs) s none b p i e = pick (or_cases (is_page r.page p && r.slot == i) (names rs p i) e) (edits rs s none b.0 p i)
     where
-      pick : ((is_page r.page p && r.slot == i) ≡ true) ⊎ (names rs p i ≡ true) → (names rs p i ≡ true → (writes (page_owner s p) ≡ true) ⊎ ((q : PageId) × ((spot_of q).page ≡ p) × ((spot_of q).slot ≡ i)))
-          → (writes (page_owner s p) ≡ true) ⊎ ((q : PageId) × ((spot_of q).page ≡ p) × ((spot_of q).slot ≡ i))
+      pick : ((is_page r.page p && r.slot == i) ≡ true) ⊎ (names rs p i ≡ true) → (names rs p i ≡ true → ((p.page % 1280 ≢ 0) × (writes (page_owner s p) ≡ true)) ⊎ ((q : PageId) × ((spot_of q).page ≡ p) × ((spot_of q).slot ≡ i)))
+          → ((p.page % 1280 ≢ 0) × (writes (page_owner s p) ≡ true)) ⊎ ((q : PageId) × ((spot_of q).page ≡ p) × ((spot_of q).slot ≡ i))
       pick (inr t) go = go t
       pick (inl t) go =
           let f = and_parts (is_page r.page p) (r.slot == i) t in
+          let here : r.page ≡ p = is_page-true r.page p f.0 in
           elim b.1.lies [
-            | inl x ↦ inl (was_written rs s p none b.0 (ap (λ o. writes (page_owner (undone rs s) o)) (sym (is_page-true r.page p f.0)) ∙ x.1))
-            | inr c ↦ inr (c.0, c.1 ∙ is_page-true r.page p f.0, c.2 ∙ eqb-true r.slot i f.1)
+            | inl x ↦ inl ((λ e. x.0 (ap (λ (q : PageId). q.page % 1280) here ∙ e)), was_written rs s p none b.0 (ap (λ o. writes (page_owner (undone rs s) o)) (sym here) ∙ x.1))
+            | inr c ↦ inr (c.0, c.1 ∙ here, c.2 ∙ eqb-true r.slot i f.1)
           ]

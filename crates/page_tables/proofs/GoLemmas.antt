@@ -1,10 +1,10 @@
 -- The claims and edits of a plan go in turn, and are the table's own.
-use Rattle.std.proofs.Common.{refl, ◌≡◌, ℕ, zero, suc, ◌+◌, ◌-◌, ◌*◌, ◌<◌, ◌≤◌, List, [], ◌∷◌, ◌++◌, length, map, get_or, ap, sym, ◌∙◌, subst, arith, Bool, true, false, cond, inl, inr}
+use Rattle.std.proofs.Common.{refl, ◌≡◌, ◌≢◌, ℕ, zero, suc, ◌+◌, ◌-◌, ◌*◌, ◌<◌, ◌≤◌, List, [], ◌∷◌, ◌++◌, length, map, get_or, ap, sym, ◌∙◌, subst, arith, Bool, true, false, cond, inl, inr}
 use Rattle.std.specs.Prelude.{nat_lt, slice_index_or}
 use Rattle.std.proofs.lemmas.List.{length-append}
 use Rattle.std.proofs.lemmas.Bool.{cases_eq, ltb-false, cases_Bool}
 use Rattle.page_base.specs.declared.numbers.PageId.{PageId}
-use Rattle.page_base.specs.Slots.{Slots}
+use Rattle.page_base.specs.Slots.{Slots, with_slot}
 use Rattle.page_base.proofs.PagesLemmas.{is_page-same}
 use Rattle.page_fmt.specs.Edits.{slot_at}
 use Rattle.page_fmt.specs.Seen.{SlotsAt}
@@ -58,37 +58,41 @@ alloc_room counts at a s =
     let long = s.long in
     omega (arith, four_each (at a) (λ j lt. s.four j (omega arith)))
 
-claim_may : (counts : List ℕ) (s : Slots) (page : PageId) (number : ℕ) → AreSpread counts (sheets (written (claim number page) s)) → is_there counts page ≡ true → page_owner s page ≡ 0 → number + 1 < 4294967295 → MayWrite counts s (claim number page)
-claim_may counts s page number spread there free small =
-    let told : owner_in (owner_bytes (number + 1)) ≡ number + 1 = owner_in-owner_bytes (number + 1) (omega (arith, small)) in
-    let four : length (owner_bytes (number + 1)) ≡ 4 = owner_in-four (owner_bytes (number + 1)) (λ e. absurd (omega (arith, e, told, small))) in
+-- a page that is there may get another owner
+pub owner_may : (counts : List ℕ) (s : Slots) (page : PageId) (o : ℕ) → AreSpread counts (sheets (with_slot s (spot_of page).page (spot_of page).slot (owner_bytes o))) → is_there counts page ≡ true → page_owner s page ≢ o → o < 4294967295 → MayWrite counts s (record { page = (spot_of page).page; slot = (spot_of page).slot; bytes = owner_bytes o })
+owner_may counts s page o spread there differs small =
+    let told : owner_in (owner_bytes o) ≡ o = owner_in-owner_bytes o (omega (arith, small)) in
+    let four : length (owner_bytes o) ≡ 4 = owner_in-four (owner_bytes o) (λ e. absurd (omega (arith, e, told, small))) in
     record {
       there = spot_there counts page there;
       index = few_slots page;
       short = omega (arith, four);
-      room = alloc_room counts (sheets (written (claim number page) s)) (spot_of page).page (spread (spot_of page).page (record { there = spot_there counts page there; every = every_spot page }));
-      changes = λ e. absurd (omega (arith, sym free ∙ ap owner_in e, told));
+      room = alloc_room counts (sheets (with_slot s (spot_of page).page (spot_of page).slot (owner_bytes o))) (spot_of page).page (spread (spot_of page).page (record { there = spot_there counts page there; every = every_spot page }));
+      changes = λ e. differs (ap owner_in e ∙ told);
     }
+
+pub claim_may : (counts : List ℕ) (s : Slots) (page : PageId) (number : ℕ) → AreSpread counts (sheets (written (claim number page) s)) → is_there counts page ≡ true → page_owner s page ≡ 0 → number + 1 < 4294967295 → MayWrite counts s (claim number page)
+claim_may counts s page number spread there free small = owner_may counts s page (number + 1) spread there (λ e. absurd (omega (arith, e, free))) small
 
 -- ---- all claims
 
 module _ (counts : List ℕ) (writes : ℕ → Bool) (none : writes 0 ≡ false) (no_alloc : writes 4294967295 ≡ false) (number : ℕ) (small : number + 1 < 4294967295) (given : writes (number + 1) ≡ true) (claimed : ℕ → PageId) (s : Slots) (spread : AreSpread counts (sheets s)) where
   -- the next page is still free
-  next_free : (n : ℕ) → AreClaimable counts (sheets s) claimed (suc n) → page_owner (done (claims number claimed n) s) (claimed n) ≡ 0
+  pub not_before : (n : ℕ) → AreClaimable counts (sheets s) claimed (suc n) → is_claimed claimed n (claimed n) ≡ false
+  not_before n c = elim (cases_Bool (is_claimed claimed n (claimed n))) [
+    | inl t ↦ let i = claim_of counts number claimed small n (claimed n) t in absurd (c.differ i.0 n i.1 (omega arith) i.2)
+    | inr f ↦ f
+  ]
+
+  pub next_free : (n : ℕ) → AreClaimable counts (sheets s) claimed (suc n) → page_owner (done (claims number claimed n) s) (claimed n) ≡ 0
   next_free n c =
       sym (owner_in_sheets (done (claims number claimed n) s) (claimed n))
       ∙ (λ i. owner (claims_done number claimed n s i) (claimed n))
       ∙ owners_given counts number claimed small n (sheets s) (claimed n) (λ i j h l. c.differ i j h (omega arith))
-      ∙ ap (λ b. cond b (number + 1) (owner (sheets s) (claimed n))) new
+      ∙ ap (λ b. cond b (number + 1) (owner (sheets s) (claimed n))) (not_before n c)
       ∙ c.free n (omega arith)
-    where
-      new : is_claimed claimed n (claimed n) ≡ false
-      new = elim (cases_Bool (is_claimed claimed n (claimed n))) [
-        | inl t ↦ let i = claim_of counts number claimed small n (claimed n) t in absurd (c.differ i.0 n i.1 (omega arith) i.2)
-        | inr f ↦ f
-      ]
 
-  fewer : (n : ℕ) → AreClaimable counts (sheets s) claimed (suc n) → AreClaimable counts (sheets s) claimed n
+  pub fewer : (n : ℕ) → AreClaimable counts (sheets s) claimed (suc n) → AreClaimable counts (sheets s) claimed n
   fewer n c = record { there = λ i h. c.there i (omega arith); free = λ i h. c.free i (omega arith); differ = λ i j h l. c.differ i j h (omega arith); targets = λ i h. c.targets i (omega arith) }
 
   pub claims_mine : (n : ℕ) → AreClaimable counts (sheets s) claimed n → AreMine counts writes s (claims number claimed n)

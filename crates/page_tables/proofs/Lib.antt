@@ -6,3 +6,10 @@ pub mod CarriedLemmas
 pub mod MineLemmas
 pub mod GoLemmas
 pub mod OwnLemmas
+pub mod DescLemmas
+pub mod CreateLemmas
+pub mod CreatedLemmas
+pub mod FreeLemmas
+pub mod DropLemmas
+pub mod LayoutLemmas
+pub mod RootLemmas

@@ -35,10 +35,10 @@ zero_small = omega arith
 -- table 0's plan, or that of another table
 module _ (counts : List ℕ) (s : Slots) (spread : AreSpread counts (sheets s)) (d : TableDesc) (few : d.number.0 + 1 < 4294967295) (claimed : ℕ → PageId) (n : ℕ) (c : AreClaimable counts (sheets s) claimed n) (edits : List Edit) (rows : Rows)
     (plan : Carries shape d.cols (first d.root) claimed n (sheets s) (owns counts (sheets s) d.number.0) edits rows) where
-  none : is_of d.number.0 0 ≡ false
+  pub none : is_of d.number.0 0 ≡ false
   none = ne_eqb 0 (d.number.0 + 1) (λ e. absurd (omega (arith, e)))
 
-  no_alloc : is_of d.number.0 4294967295 ≡ false
+  pub no_alloc : is_of d.number.0 4294967295 ≡ false
   no_alloc = ne_eqb 4294967295 (d.number.0 + 1) (λ e. absurd (omega (arith, e, few)))
 
   given : is_of d.number.0 (d.number.0 + 1) ≡ true
@@ -56,13 +56,13 @@ module _ (counts : List ℕ) (s : Slots) (spread : AreSpread counts (sheets s)) 
       (λ q m. sym (pages_kept counts d.number.0 claimed few n (sheets s) q (mine_off counts (sheets s) spread d few claimed n c edits rows plan q m))) plan
 
   -- and its edits are on the table's pages
-  own : AreOwn counts (is_of d.number.0) none no_alloc claimed n (owns counts (sheets s) d.number.0) (done (claims d.number.0 claimed n) s)
+  pub own : AreOwn counts (is_of d.number.0) none no_alloc claimed n (owns counts (sheets s) d.number.0) (done (claims d.number.0 claimed n) s)
   own q t =
       let owned : owns counts (sheets (done (claims d.number.0 claimed n) s)) d.number.0 q ≡ true = (λ i. owns counts (sheets_y i) d.number.0 q) ∙ (λ i. owned_claims counts d.number.0 claimed few n (sheets s) c i q) ∙ t in
       let parts = and_parts (is_there counts q) (owner (sheets (done (claims d.number.0 claimed n) s)) q == d.number.0 + 1) owned in
       (parts.0, ap (is_of d.number.0) (sym (owner_in_sheets (done (claims d.number.0 claimed n) s) q)) ∙ parts.1)
 
-  spread_y : AreSpread counts (sheets (done (claims d.number.0 claimed n) s))
+  pub spread_y : AreSpread counts (sheets (done (claims d.number.0 claimed n) s))
   spread_y = (all_move counts (is_of d.number.0) none no_alloc s (claims d.number.0 claimed n) spread (claims_mine counts (is_of d.number.0) none no_alloc d.number.0 few given claimed s spread n c)).spread
 
   pub plan_go : MayWriteAll counts s (claims d.number.0 claimed n ++ map (write_of claimed) edits)

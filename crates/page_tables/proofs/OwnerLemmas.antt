@@ -30,15 +30,15 @@ page_cases q p = elim (cases_Bool (is_page q p)) [
 ]
 
 -- the slot of a page on its allocation page gets an owner
-module _ (at : SlotsAt) (p : PageId) (number : ℕ) (small : number + 1 < 2 ^ 32) where
+module _ (at : SlotsAt) (p : PageId) (o : ℕ) (small : o < 2 ^ 32) where
   abbrev pub given : SlotsAt
-  given = set_at at (spot_of p).page (edited (at (spot_of p).page) (spot_of p).slot (owner_bytes (number + 1)))
+  given = set_at at (spot_of p).page (edited (at (spot_of p).page) (spot_of p).slot (owner_bytes o))
 
-  pub owner_given : owner given p ≡ number + 1
-  owner_given = (λ i. page_owner (slots_in-edited at (spot_of p).page (spot_of p).slot (owner_bytes (number + 1)) i) p) ∙ page_owner-same (slots_in at) p (number + 1) small
+  pub owner_given : owner given p ≡ o
+  owner_given = (λ i. page_owner (slots_in-edited at (spot_of p).page (spot_of p).slot (owner_bytes o) i) p) ∙ page_owner-same (slots_in at) p o small
 
   pub owner_kept : (q : PageId) → q ≢ p → owner given q ≡ owner at q
-  owner_kept q ne = (λ i. page_owner (slots_in-edited at (spot_of p).page (spot_of p).slot (owner_bytes (number + 1)) i) q) ∙ page_owner-other (slots_in at) p q (owner_bytes (number + 1)) ne
+  owner_kept q ne = (λ i. page_owner (slots_in-edited at (spot_of p).page (spot_of p).slot (owner_bytes o) i) q) ∙ page_owner-other (slots_in at) p q (owner_bytes o) ne
 
   pub page_kept : (q : PageId) → q.page % 1280 ≢ 0 → given q ≡ at q
   page_kept q ne =
@@ -46,7 +46,7 @@ module _ (at : SlotsAt) (p : PageId) (number : ℕ) (small : number + 1 < 2 ^ 32
         | inl e ↦ absurd (ne (ap (λ (r : PageId). r.page % 1280) (sym e) ∙ every p))
         | inr f ↦ f
       ] in
-      ap (λ b. cond b (edited (at (spot_of p).page) (spot_of p).slot (owner_bytes (number + 1))) (at q)) other
+      ap (λ b. cond b (edited (at (spot_of p).page) (spot_of p).slot (owner_bytes o)) (at q)) other
     where
       every : (p : PageId) → (spot_of p).page.page % 1280 ≡ 0
       every p = omega arith
@@ -71,11 +71,11 @@ spread_same counts at other a e s = record {
   only = λ j h l. subst (λ x. owner_at x j ≢ 4294967295) e (s.only j h l);
 }
 
-module _ (counts : List ℕ) (number : ℕ) (small : number + 1 < 4294967295) where
-  owner_read : owner_in (owner_bytes (number + 1)) ≡ number + 1
-  owner_read = owner_in-owner_bytes (number + 1) (omega (arith, small))
+module _ (counts : List ℕ) (o : ℕ) (small : o < 4294967295) where
+  owner_read : owner_in (owner_bytes o) ≡ o
+  owner_read = owner_in-owner_bytes o (omega (arith, small))
 
-  no_alloc : owner_in (owner_bytes (number + 1)) ≢ 4294967295
+  no_alloc : owner_in (owner_bytes o) ≢ 4294967295
   no_alloc e = absurd (omega (arith, small, owner_read, e))
 
   -- the slot of a page that is there lies within the span of its allocation page
@@ -89,10 +89,10 @@ module _ (counts : List ℕ) (number : ℕ) (small : number + 1 < 4294967295) wh
       by true e = omega arith
       by false e = omega (arith, below)
 
-  told : (at other : SlotsAt) (p a : PageId) → (spot_of p).page ≡ a → is_there counts p ≡ true → p.page % 1280 ≢ 0 → other a ≡ edited (at a) (spot_of p).slot (owner_bytes (number + 1)) → IsSpread counts at a → IsSpread counts other a
+  told : (at other : SlotsAt) (p a : PageId) → (spot_of p).page ≡ a → is_there counts p ≡ true → p.page % 1280 ≢ 0 → other a ≡ edited (at a) (spot_of p).slot (owner_bytes o) → IsSpread counts at a → IsSpread counts other a
   told at other p a same there ne is s =
-      let bytes : List ℕ = owner_bytes (number + 1) in
-      let four : length (owner_bytes (number + 1)) ≡ 4 = owner_in-four (owner_bytes (number + 1)) no_alloc in
+      let bytes : List ℕ = owner_bytes o in
+      let four : length (owner_bytes o) ≡ 4 = owner_in-four (owner_bytes o) no_alloc in
       let within : p.page % 1280 < span counts a = subst (λ r. p.page % 1280 < span counts r) same (within_span p there) in
       let made : edited (at a) (p.page % 1280) bytes ≡ set_slot (at a) (p.page % 1280) bytes = edited_some (at a) (p.page % 1280) bytes (omega (arith, four)) in
       let size : length (other a) ≡ max (length (at a)) (p.page % 1280 + 1) = ap length is ∙ ap length made ∙ length-set_slot (at a) (p.page % 1280) bytes in
@@ -109,21 +109,29 @@ module _ (counts : List ℕ) (number : ℕ) (small : number + 1 < 4294967295) wh
         ];
       }
 
+  -- the pages that tell of others go on doing so
+  pub spread_given : (at : SlotsAt) (p a : PageId) → is_there counts p ≡ true → p.page % 1280 ≢ 0 → IsSpread counts at a → IsSpread counts (given at p o (omega (arith, small))) a
+  spread_given at p a there ne s = elim (page_cases (spot_of p).page a) [
+    | inr other ↦ spread_same counts at (given at p o (omega (arith, small))) a (sym (ap (λ b. cond b (edited (at (spot_of p).page) (spot_of p).slot (owner_bytes o)) (at a)) other)) s
+    | inl same ↦ told at (given at p o (omega (arith, small))) p a same there ne
+        (ap (λ b. cond b (edited (at (spot_of p).page) (spot_of p).slot (owner_bytes o)) (at a)) (ap (is_page (spot_of p).page) (sym same) ∙ is_page-same (spot_of p).page) ∙ ap (λ r. edited (at r) (spot_of p).slot (owner_bytes o)) same) s
+  ]
+
 -- ALL CLAIMS
 
 module _ (counts : List ℕ) (number : ℕ) (claimed : ℕ → PageId) (small : number + 1 < 4294967295) where
   pub pages_kept : (n : ℕ) (at : SlotsAt) (q : PageId) → q.page % 1280 ≢ 0 → with_claims number claimed n at q ≡ at q
   pages_kept zero at q ne = refl
-  pages_kept (suc n) at q ne = page_kept (with_claims number claimed n at) (claimed n) number (omega (arith, small)) q ne ∙ pages_kept n at q ne
+  pages_kept (suc n) at q ne = page_kept (with_claims number claimed n at) (claimed n) (number + 1) (omega (arith, small)) q ne ∙ pages_kept n at q ne
 
   pub owners_given : (n : ℕ) (at : SlotsAt) (q : PageId) → ((i j : ℕ) → i < j → j < n → claimed i ≢ claimed j) → owner (with_claims number claimed n at) q ≡ cond (is_claimed claimed n q) (number + 1) (owner at q)
   owners_given zero at q differ = refl
   owners_given (suc n) at q differ = elim (page_cases (claimed n) q) [
     | inl same ↦
         subst (λ r. owner (with_claims number claimed (suc n) at) r ≡ cond (is_page (claimed n) r || is_claimed claimed n r) (number + 1) (owner at r)) same
-        (owner_given (with_claims number claimed n at) (claimed n) number (omega (arith, small)) ∙ sym (ap (λ b. cond (b || is_claimed claimed n (claimed n)) (number + 1) (owner at (claimed n))) (is_page-same (claimed n))))
+        (owner_given (with_claims number claimed n at) (claimed n) (number + 1) (omega (arith, small)) ∙ sym (ap (λ b. cond (b || is_claimed claimed n (claimed n)) (number + 1) (owner at (claimed n))) (is_page-same (claimed n))))
     | inr other ↦
-        owner_kept (with_claims number claimed n at) (claimed n) number (omega (arith, small)) q (λ e. let w : true ≡ false = sym (is_page-same (claimed n)) ∙ ap (is_page (claimed n)) (sym e) ∙ other in cc)
+        owner_kept (with_claims number claimed n at) (claimed n) (number + 1) (omega (arith, small)) q (λ e. let w : true ≡ false = sym (is_page-same (claimed n)) ∙ ap (is_page (claimed n)) (sym e) ∙ other in cc)
         ∙ owners_given n at q (λ i j h l. differ i j h (omega arith)) ∙ sym (ap (λ b. cond (b || is_claimed claimed n q) (number + 1) (owner at q)) other)
   ]
 
@@ -137,17 +145,9 @@ module _ (counts : List ℕ) (number : ℕ) (claimed : ℕ → PageId) (small : 
         (r.0, omega (arith, r.1), r.2)
   ]
 
-  -- the pages that tell of others go on doing so
-  spread_given : (at : SlotsAt) (p a : PageId) → is_there counts p ≡ true → p.page % 1280 ≢ 0 → IsSpread counts at a → IsSpread counts (given at p number (omega (arith, small))) a
-  spread_given at p a there ne s = elim (page_cases (spot_of p).page a) [
-    | inr other ↦ spread_same counts at (given at p number (omega (arith, small))) a (sym (ap (λ b. cond b (edited (at (spot_of p).page) (spot_of p).slot (owner_bytes (number + 1))) (at a)) other)) s
-    | inl same ↦ told counts number small at (given at p number (omega (arith, small))) p a same there ne
-        (ap (λ b. cond b (edited (at (spot_of p).page) (spot_of p).slot (owner_bytes (number + 1))) (at a)) (ap (is_page (spot_of p).page) (sym same) ∙ is_page-same (spot_of p).page) ∙ ap (λ r. edited (at r) (spot_of p).slot (owner_bytes (number + 1))) same) s
-  ]
-
   pub spread_kept : (n : ℕ) (at : SlotsAt) (a : PageId) → ((i : ℕ) → i < n → is_there counts (claimed i) ≡ true) → ((i : ℕ) → i < n → (claimed i).page % 1280 ≢ 0) → IsSpread counts at a → IsSpread counts (with_claims number claimed n at) a
   spread_kept zero at a there ne s = s
-  spread_kept (suc n) at a there ne s = spread_given (with_claims number claimed n at) (claimed n) a (there n (omega arith)) (ne n (omega arith)) (spread_kept n at a (λ i h. there i (omega arith)) (λ i h. ne i (omega arith)) s)
+  spread_kept (suc n) at a there ne s = spread_given counts (number + 1) small (with_claims number claimed n at) (claimed n) a (there n (omega arith)) (ne n (omega arith)) (spread_kept n at a (λ i h. there i (omega arith)) (λ i h. ne i (omega arith)) s)
 
 -- ONE EDIT
 

@@ -5,3 +5,6 @@ pub mod Bases
 pub mod Writes
 pub mod Mine
 pub mod Claims
+pub mod Creating
+pub mod Dropping
+pub mod Rooting

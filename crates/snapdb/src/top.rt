@@ -27,12 +27,13 @@ ghost use Rattle.script_read.specs.Script.{IsScript};
 ghost use Rattle.snapdb.specs.Headline.{IsPlay, Reads, Tells, Refuses, close_line, script_line, fresh};
 
 use crate::stream::{ReadRefusal, read_all, write_all};
-use crate::text::{book_text, script_line};
+use crate::text::script_line;
 use crate::words::is_play;
 use early_engine::{CloseEnd, Closed, Engine, OpenRefused};
-use page_base::{FileName, Name};
+use page_base::{FileName, Name, NoMemory};
 use page_dev::{Sink, SinkRefusal, Source, Volume};
 use plain_model::Book;
+use reply_text::print_book;
 use script_read::{ScriptRefusal, Why, Work2, read_script};
 use std::alloc::{AllocError, Global};
 
@@ -186,13 +187,13 @@ fn with_close_line(mut text: Vec<u8>, name: &FileName) -> Result<Vec<u8>, AllocE
 }
 
 // The text of a history, and the line of the file that wasn't put back, if there is one.
-fn told_text(alloc: Global, book: &Book, end: &CloseEnd) -> Result<Vec<u8>, AllocError>
+fn told_text(alloc: Global, book: &Book, end: &CloseEnd) -> Result<Vec<u8>, NoMemory>
     ensures { IfOk result (λ text. text.items ≡ told_text book.now end.now) }
 {
-    let text = book_text(alloc, book)?;
+    let text = print_book(alloc, book)?.into_vec();
     match end {
         CloseEnd::Done => Ok(text),
-        CloseEnd::Fault(name) => with_close_line(text, name),
+        CloseEnd::Fault(name) => Ok(with_close_line(text, name)?),
     }
 }
 

@@ -8,7 +8,7 @@ use Rattle.page_base.specs.declared.numbers.PageId.{PageId}
 use Rattle.page_fmt.specs.Seen.{SlotsAt}
 use Rattle.table_walk.specs.Addresses.{address, page_at, names_none, IsTarget}
 use Rattle.table_walk.specs.Plans.{place}
-use Rattle.table_walk.proofs.AddressLemmas.{page_at-address}
+use Rattle.table_walk.proofs.AddressLemmas.{page_at-address, zeros_name_none}
 use Rattle.table_heap.specs.Growth.{count_of, slot_0, root_made, IsChain, leaf_claims, root_claims, AreFollowed}
 use Rattle.table_heap.specs.declared.growing.RootPage.{RootPage}
 use Rattle.table_heap.specs.Planning.{AreBehind}
@@ -61,7 +61,7 @@ module _ (claimed : ℕ → PageId) where
   made_last old olds r t n e = (subst (λ o. names_none (slot_0 claimed o old) ≡ true) (sym e) (slot old n), names_all old olds r.names t n)
     where
       slot : (old : List (List ℕ)) → NamedBefore old olds → names_none (slot_0 claimed None old) ≡ true
-      slot [] n = refl
+      slot [] n = zeros_name_none
       slot (x ∷ xs) n = n.0
 
   -- and one before another

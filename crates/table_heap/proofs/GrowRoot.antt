@@ -9,7 +9,7 @@ use Rattle.table_walk.specs.declared.plan.Edit.{Edit}
 use Rattle.table_walk.specs.declared.plan.Spot.{Spot}
 use Rattle.table_walk.specs.Addresses.{address, page_at, page_number, target, names_none, IsTarget}
 use Rattle.table_walk.specs.Plans.{place, bytes_of}
-use Rattle.table_walk.proofs.AddressLemmas.{page_at-address}
+use Rattle.table_walk.proofs.AddressLemmas.{address_length, address_some, page_at-address}
 use Rattle.table_heap.specs.Growth.{slot_0, root_made, slots_made, front_edits, name_edits, root_edits}
 use Rattle.table_heap.specs.declared.growing.RootPage.{RootPage}
 use Rattle.table_heap.specs.Shape.{Name}
@@ -18,14 +18,6 @@ use Rattle.table_heap.proofs.GrowEdits.{Turns, turns_append}
 use Rattle.table_heap.proofs.ShapeLemmas.{Name-length, named_not_none}
 
 -- ADDRESSES
-
-address_some : (p : PageId) → address p ≢ []
-unfolding address
-address_some p e = let w : suc (length (p.page % 256 ∷ p.page / 256 % 256 ∷ p.page / 65536 % 256 ∷ p.page / 16777216 ∷ [])) ≡ 0 = ap length e in absurd (omega arith)
-
-address_length : (p : PageId) → length (address p) ≡ 5
-unfolding address
-address_length p = refl
 
 none_length : (x : List ℕ) → names_none x ≡ true → length x ≡ 5
 none_length x e = eqb-true (length x) 5 (by (length x == 5) (slice_index x 0 == 0) (page_number x == 0) e)

@@ -1,8 +1,11 @@
 -- The address of a page, read again.
-use Rattle.std.proofs.Common.{refl, ◌≡◌, ℕ, ◌+◌, ◌*◌, ◌/◌, ◌%◌, ap, ◌∙◌, arith, Bool, true, false, cond, ◌==◌, ◌&&◌, eqb-true}
+use Rattle.std.proofs.Common.{refl, ◌≡◌, ◌≢◌, ◌<◌, [], ◌∷◌, length, ap, sym, ◌∙◌, arith, Bool, true, false, cond, ◌==◌, ◌&&◌, eq-eqb, eqb-true}
 use Rattle.std.specs.Prelude.{None, Some}
+use Rattle.std.proofs.lemmas.List.{append-nil}
 use Rattle.page_base.specs.declared.numbers.PageId.{PageId}
-use Rattle.table_walk.specs.Addresses.{address, target, page_at, IsTarget}
+use Rattle.byte_fields.specs.Numbers.{number, number_in}
+use Rattle.byte_fields.proofs.Numbers.{number_in-number, length-number}
+use Rattle.table_walk.specs.Addresses.{address, target, page_number, page_at, names_none, IsTarget}
 
 target_is : (p : PageId) → IsTarget p → target p.file p.page ≡ Some p
 target_is p t = by (p.file == 0) (p.page == 0) refl refl
@@ -12,9 +15,20 @@ target_is p t = by (p.file == 0) (p.page == 0) refl refl
     by true false e f = refl
     by false b e f = refl
 
+pub address_length : (p : PageId) → length (address p) ≡ 5
+address_length p = omega (arith, length-number 4 p.page)
+
+pub address_some : (p : PageId) → address p ≢ []
+address_some p e = absurd (omega (arith, address_length p, ap length e))
+
+number_again : (p : PageId) → p.page < 4294967296 → page_number (address p) ≡ p.page
+number_again p small = ap (number_in 4) (sym (append-nil (number 4 p.page))) ∙ number_in-number 4 p.page [] (omega (arith, small))
+
 pub page_at-address : (p : PageId) → IsTarget p → page_at (address p) ≡ Some p
-unfolding address
-page_at-address p t = ap (target p.file) (parts p.page) ∙ target_is p t
-  where
-    parts : (n : ℕ) → n % 256 + 256 * (n / 256 % 256) + 65536 * (n / 65536 % 256) + 16777216 * (n / 16777216) ≡ n
-    parts n = omega arith
+page_at-address p t =
+    ap (λ b. cond b (target p.file (page_number (address p))) None) (eq-eqb (length (address p)) 5 (address_length p)) ∙ ap (target p.file) (number_again p t.small) ∙ target_is p t
+
+-- five zeros name no page
+pub zeros_name_none : names_none (0 ∷ 0 ∷ 0 ∷ 0 ∷ 0 ∷ []) ≡ true
+unfolding number_in
+zeros_name_none = refl

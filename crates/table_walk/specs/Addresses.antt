@@ -1,18 +1,17 @@
--- The address of a page in five bytes: its file, and its page with the lowest byte first.
-use Rattle.std.specs.Prelude.{Bool, ◌<◌, ◌≡◌, ◌==◌, ◌&&◌, ◌/◌, ◌%◌, Option, None, Some, if◌then◌else◌, ℕ, ◌+◌, ◌*◌, List, [], ◌∷◌, length, slice_index}
+-- The addresses that slots hold: which page one names, and which names none.
+use Rattle.std.specs.Prelude.{Bool, ◌<◌, ◌≡◌, ◌==◌, ◌&&◌, Option, None, Some, if◌then◌else◌, ℕ, List, length, slice_index, drop}
 use Rattle.page_base.specs.declared.numbers.PageId.{PageId}
+use Rattle.byte_fields.specs.Numbers.{number_in}
+-- the bytes of an address are those of the field, wherever one stands
+pub use Rattle.byte_fields.specs.Fields.{address}
 
--- an address in five bytes
-unfoldable pub address : PageId → List ℕ
-address p = p.file ∷ p.page % 256 ∷ p.page / 256 % 256 ∷ p.page / 65536 % 256 ∷ p.page / 16777216 ∷ []
+-- the number in the last four of five bytes
+abbrev pub page_number : List ℕ → ℕ
+page_number x = number_in 4 (drop 1 x)
 
 -- page 0 of file 0 is never named
 abbrev pub target : ℕ → ℕ → Option PageId
 target file page = if file == 0 && page == 0 then None else Some (record { file = file; page = page })
-
--- the number in the last four of five bytes
-abbrev pub page_number : List ℕ → ℕ
-page_number x = slice_index x 1 + 256 * slice_index x 2 + 65536 * slice_index x 3 + 16777216 * slice_index x 4
 
 -- the page that these bytes name, if they are an address
 abbrev pub page_at : List ℕ → Option PageId

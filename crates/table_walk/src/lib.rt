@@ -15,7 +15,8 @@ mod row_map;
 mod rows;
 mod visit;
 
-pub use addresses::{address, names_none, page_at};
+pub use addresses::{names_none, page_at};
+pub use byte_fields::address;
 pub use differences::add_differences;
 pub use find::{Find, Wants};
 pub use index::{page_index, place};

@@ -71,13 +71,13 @@ keys_have cols P (x ∷ xs) e = by (whole (row_at cols x)) refl e (keys_have col
 
 -- LEVELS
 
-level_same : (level : Option ℕ) (l n : ℕ) → may_be level l ≡ true → named_or l level ≡ n → l ≡ n
+pub level_same : (level : Option ℕ) (l n : ℕ) → may_be level l ≡ true → named_or l level ≡ n → l ≡ n
 level_same None zero n m e = e
 level_same None (suc l) n m e = e
 level_same (Some k) zero n m e = absurd (let wrong : false ≡ true = m in cc)
 level_same (Some k) (suc l) n m e = sym (eqb-true k (suc l) m) ∙ e
 
-leaf_zero : (level : Option ℕ) (l : ℕ) → is_zero level ≡ true → named_or l level ≡ 0
+pub leaf_zero : (level : Option ℕ) (l : ℕ) → is_zero level ≡ true → named_or l level ≡ 0
 leaf_zero None l e = absurd (let wrong : false ≡ true = e in cc)
 leaf_zero (Some zero) l e = refl
 leaf_zero (Some (suc n)) l e = absurd (let wrong : false ≡ true = e in cc)
@@ -102,7 +102,7 @@ begun kids at v (x ∷ more) w = by (kids v (at v.page)) refl w.1
     by (Err e) is h = absurd h
     by (Ok next) is h = record { more = more; next = next; are = ap (λ (z : Visit). z ∷ more) (sym w.0); is = is; walks = subst (λ (l : List Visit). Walks kids at l more []) (append-nil next) h }
 
-no_walk : (kids : Kids) (at : SlotsAt) (next more : List Visit) → next ≡ [] → Walks kids at next more [] → more ≡ []
+pub no_walk : (kids : Kids) (at : SlotsAt) (next more : List Visit) → next ≡ [] → Walks kids at next more [] → more ≡ []
 no_walk kids at next [] e w = refl
 no_walk kids at next (x ∷ more) e w = absurd (subst (λ (l : List Visit). Walks kids at l (x ∷ more) []) e w)
 
@@ -355,7 +355,7 @@ module _ (cols : List Column) (at : SlotsAt) where
         record { found = s.found; gathers = s.gathers; same = s.same ∙ r.same }
 
 -- the pages of a walk stand in it as they are
-shown_are : (at : SlotsAt) (done : List Visit) (k : ℕ) (d : Visit) → k < length done → look (shown at done) (get_or done k d).page ≡ at (get_or done k d).page
+pub shown_are : (at : SlotsAt) (done : List Visit) (k : ℕ) (d : Visit) → k < length done → look (shown at done) (get_or done k d).page ≡ at (get_or done k d).page
 shown_are at [] k d lt = absurd (omega (arith, lt))
 shown_are at (v ∷ vs) zero d lt = ap (λ (b : Bool). cond b (at v.page) (look (shown at vs) v.page)) (is_page-same v.page)
 shown_are at (v ∷ vs) (suc k) d lt = by (is_page v.page (get_or vs k d).page) refl (shown_are at vs k d (omega (arith, lt)))

@@ -11,6 +11,7 @@ use Rattle.page_fmt.specs.Spelling.{used, row_bytes as bytes_in, FitsPage, LastI
 use Rattle.byte_fields.specs.Numbers.{number}
 use Rattle.byte_fields.proofs.Numbers.{length-number}
 use Rattle.table_walk.specs.Addresses.{address, IsTarget}
+use Rattle.table_walk.proofs.AddressLemmas.{address_length}
 use Rattle.tree_laws.specs.Keys.{Key}
 use Rattle.tree_laws.specs.Order.{Mark, own}
 use Rattle.tree_laws.specs.Parts.{fill, joined, total, AreSmall, Fit}
@@ -27,10 +28,6 @@ use Rattle.tree_laws.proofs.Sound.{AreRules, HasLeast, ArePart, HasSome, IsEntry
 use Rattle.tree_laws.proofs.Times.{times, times-append, times_here, times_first, set_same, set_other, AgreeOn, Below, marks-same, inside-same, headless-below, pages-same, rows-same}
 
 -- SIZES AND LAST SLOTS
-
-address_length : (p : PageId) → length (address p) ≡ 5
-unfolding address
-address_length p = refl
 
 entry_some : (e : Entry) → entry_bytes (Some e) ≢ []
 entry_some e none =
@@ -69,7 +66,7 @@ used_entries : (es : List Entry) → bytes_in (map entry_bytes (map Some es)) + 
 used_entries [] = omega arith
 used_entries (e ∷ es) = omega (arith, used_entries es)
 
-fits_entries : (n : ℕ) (es : List Entry) → total entry_size es ≤ 8090 → FitsPage (slots_in (inner_of n es))
+pub fits_entries : (n : ℕ) (es : List Entry) → total entry_size es ≤ 8090 → FitsPage (slots_in (inner_of n es))
 fits_entries n es h = record { small = omega (arith, used_entries es, h, length-number 4 n); last = full_cons (number 4 n) (map entry_bytes (map Some es)) (number_some n) (last_entries es) }
 
 pub size_of : (cols : List Column) (P : List Value → Type 0) (K : Key → Type 0) → AreRules cols P K → (e : Entry) → IsEntry K e → entry_size e ≤ 907
@@ -81,17 +78,17 @@ size_of cols P K rules e h = by e.least h.least
 
 -- PARTS
 
-small_entries : (most : ℕ) (es : List Entry) → Each (λ e. entry_size e ≤ most) es → AreSmall entry_size most es
+pub small_entries : (most : ℕ) (es : List Entry) → Each (λ e. entry_size e ≤ most) es → AreSmall entry_size most es
 small_entries most [] h = tt
 small_entries most (e ∷ es) h = (h.0, small_entries most es h.1)
 
-wider : (es : List Entry) → Each (λ e. entry_size e ≤ 907) es → Each (λ e. entry_size e ≤ 8090) es
+pub wider : (es : List Entry) → Each (λ e. entry_size e ≤ 907) es → Each (λ e. entry_size e ≤ 8090) es
 wider es h = each-map (λ e. entry_size e ≤ 907) (λ e. entry_size e ≤ 8090) es (λ e s. omega (arith, s)) h
 
 abbrev Es : Type 0
 Es = List Entry
 
-first_or_none : (xs p : Es) (ps : List Es) → Each (λ e. entry_size e ≤ 8090) xs → fill entry_size 8090 8090 xs ≡ p ∷ ps → ((p ≢ []) ⊎ (ps ≡ [])) × Each (λ p. p ≢ []) ps
+pub first_or_none : (xs p : Es) (ps : List Es) → Each (λ e. entry_size e ≤ 8090) xs → fill entry_size 8090 8090 xs ≡ p ∷ ps → ((p ≢ []) ⊎ (ps ≡ [])) × Each (λ p. p ≢ []) ps
 first_or_none [] p ps small e = let same : ps ≡ [] = sym (tail_is e) in (inr same, subst (Each (λ p. p ≢ [])) (sym same) tt)
   where
     tail_is : ◌≡◌ {A = List Es} ([] ∷ []) (p ∷ ps) → [] ≡ ps
@@ -100,30 +97,30 @@ first_or_none (x ∷ xs) p ps small e =
     let full : Each (λ p. p ≢ []) (p ∷ ps) = subst (Each (λ p. p ≢ [])) e (all_full entry_size 8090 8090 x xs small.0) in
     (inl full.0, full.1)
 
-parts_each : (P : Entry → Type 0) (ps : List Es) → Each P (joined ps) → Each (Each P) ps
+pub parts_each : (P : Entry → Type 0) (ps : List Es) → Each P (joined ps) → Each (Each P) ps
 parts_each P [] h = tt
 parts_each P (p ∷ ps) h = (each-left P p (joined ps) h, parts_each P ps (each-right P p (joined ps) h))
 
-parts_rise : (ps : List Es) → Rises (joined ps) → Each Rises ps
+pub parts_rise : (ps : List Es) → Rises (joined ps) → Each Rises ps
 parts_rise [] r = tt
 parts_rise (p ∷ ps) r = (rises-left p (joined ps) r, parts_rise ps (rises-right p (joined ps) r))
 
-parts_fit : (ps : List Es) → Fit entry_size 8090 ps → Each (λ p. total entry_size p ≤ 8090) ps
+pub parts_fit : (ps : List Es) → Fit entry_size 8090 ps → Each (λ p. total entry_size p ≤ 8090) ps
 parts_fit [] f = tt
 parts_fit (p ∷ ps) f = (f.0, parts_fit ps f.1)
 
 -- the first part, and those behind it, of entries of which the first alone may lack a least key
-part_left : (least : Option Key) (xs ys : Es) → ArePart least (xs ++ ys) → ArePart least xs
+pub part_left : (least : Option Key) (xs ys : Es) → ArePart least (xs ++ ys) → ArePart least xs
 part_left least [] ys a = tt
 part_left least (x ∷ xs) ys a = (a.0, each-left HasLeast xs ys a.1)
 
-part_right : (least : Option Key) (xs ys : Es) → (xs ≢ []) ⊎ (ys ≡ []) → ArePart least (xs ++ ys) → Each HasLeast ys
+pub part_right : (least : Option Key) (xs ys : Es) → (xs ≢ []) ⊎ (ys ≡ []) → ArePart least (xs ++ ys) → Each HasLeast ys
 part_right least [] ys (inl some) a = absurd (some refl)
 part_right least [] [] (inr none) a = tt
 part_right least [] (y ∷ ys) (inr none) a = absurd (cc)
 part_right least (x ∷ xs) ys h a = each-right HasLeast xs ys a.1
 
-has_some : (n : ℕ) (p : Es) → p ≢ [] → HasSome n p
+pub has_some : (n : ℕ) (p : Es) → p ≢ [] → HasSome n p
 has_some zero p h = tt
 has_some (suc n) [] h = absurd (h refl)
 has_some (suc n) (e ∷ es) h = tt
@@ -133,13 +130,13 @@ has_some (suc n) (e ∷ es) h = tt
 headed : (w : PageId → List Mark) (x : Entry) (xs : Es) → own x.least ++ flat_map (marks_of w) (headless (x ∷ xs)) ≡ flat_map (marks_of w) (x ∷ xs)
 headed w x xs = sym (append_assoc (own x.least) (w x.page) (flat_map (marks_of w) xs))
 
-headless-append : (w : PageId → List Mark) (xs ys : Es) → (xs ≢ []) ⊎ (ys ≡ []) → flat_map (marks_of w) (headless xs) ++ flat_map (marks_of w) ys ≡ flat_map (marks_of w) (headless (xs ++ ys))
+pub headless-append : (w : PageId → List Mark) (xs ys : Es) → (xs ≢ []) ⊎ (ys ≡ []) → flat_map (marks_of w) (headless xs) ++ flat_map (marks_of w) ys ≡ flat_map (marks_of w) (headless (xs ++ ys))
 headless-append w [] ys (inl some) = absurd (some refl)
 headless-append w [] [] (inr none) = refl
 headless-append w [] (y ∷ ys) (inr none) = absurd (cc)
 headless-append w (x ∷ xs) ys h = sym (flat-append (marks_of w) (record x { least = None } ∷ xs) ys)
 
-module _ (cols : List Column) (P : List Value → Type 0) (K : Key → Type 0) (rules : AreRules cols P K) (claimed : ℕ → PageId) (n : ℕ) (least : Option Key) (p : PageId) (t : Stand) (all : List Entry) (es : List (Option Entry)) where
+module _ (cols : List Column) (P : List Value → Type 0) (K : Key → Type 0) (R : PageId → Bool) (rules : AreRules cols P K) (claimed : ℕ → PageId) (n : ℕ) (least : Option Key) (p : PageId) (t : Stand) (all : List Entry) (es : List (Option Entry)) where
   -- entries below which all is sound, to stand on a page and on new ones
   pub record AreEntries (r : ℕ) : Type 0 where
     pub are : in_key_order es ≡ all
@@ -147,7 +144,7 @@ module _ (cols : List Column) (P : List Value → Type 0) (K : Key → Type 0) (
     pub each : Each (IsEntry K) all
     pub part : ArePart least all
     pub some : HasSome n all
-    pub sound : Each (λ e. IsSound P K t.sheets n e.least e.page) all
+    pub sound : Each (λ e. IsSound P K R t.sheets n e.least e.page) all
     pub last : LastIsFull (slots_in (Inner (suc n) es))
     pub total : total entry_size all ≤ 9904
     pub once : (q : PageId) → times q (p ∷ []) + times q (Below t.sheets n all) + times q (claimed_from claimed t.claims r) ≤ 1
@@ -158,29 +155,29 @@ module _ (cols : List Column) (P : List Value → Type 0) (K : Key → Type 0) (
     pub used : ℕ
     pub claims : g.stand.claims ≡ t.claims + used
     pub few : length g.more ≤ 2
-    pub sound : IsSound P K g.stand.sheets (suc n) least p
-    pub new : Each (λ e. IsEntry K e × HasLeast e × IsSound P K g.stand.sheets (suc n) e.least e.page) g.more
+    pub sound : IsSound P K R g.stand.sheets (suc n) least p
+    pub new : Each (λ e. IsEntry K e × HasLeast e × IsSound P K R g.stand.sheets (suc n) e.least e.page) g.more
     pub marks : inside cols g.stand.sheets (suc n) p ++ flat_map (marks_of (inside cols g.stand.sheets (suc n))) g.more ≡ flat_map (marks_of (inside cols t.sheets n)) (headless all)
     pub rows : rows_of cols g.stand.sheets (suc n) p ++ flat_map (λ e. rows_of cols g.stand.sheets (suc n) e.page) g.more ≡ flat_map (λ e. rows_of cols t.sheets n e.page) all
     pub pages : (q : PageId) → times q (pages_of g.stand.sheets (suc n) p) + times q (Below g.stand.sheets (suc n) g.more) ≡ times q (p ∷ []) + times q (Below t.sheets n all) + times q (claimed_from claimed t.claims used)
     pub others : (q : PageId) → times q (p ∷ []) ≡ 0 → times q (claimed_from claimed t.claims used) ≡ 0 → g.stand.sheets q ≡ t.sheets q
 
-  apart : (q : PageId) → times q (p ∷ []) ≡ 0 → p ≢ q
+  pub apart : (q : PageId) → times q (p ∷ []) ≡ 0 → p ≢ q
   apart q none e = let there : 1 ≤ times q (p ∷ []) = subst (λ (x : PageId). 1 ≤ times q (x ∷ [])) (sym e) (times_here q []) in absurd (omega (arith, none, there))
 
   -- pages below the entries, of which none changes
   module _ (u : PageId → Sheet) (agree : AgreeOn t.sheets u (Below t.sheets n all)) where
-    same_marks : flat_map (marks_of (inside cols u n)) (headless all) ≡ flat_map (marks_of (inside cols t.sheets n)) (headless all)
+    pub same_marks : flat_map (marks_of (inside cols u n)) (headless all) ≡ flat_map (marks_of (inside cols t.sheets n)) (headless all)
     same_marks = sym (marks-same cols t.sheets u n (headless all) (subst (AgreeOn t.sheets u) (sym (headless-below t.sheets n all)) agree) (inside-same cols t.sheets u n))
 
-    same_below : (xs : List Entry) → AgreeOn t.sheets u (Below t.sheets n xs) → Below u n xs ≡ Below t.sheets n xs
+    pub same_below : (xs : List Entry) → AgreeOn t.sheets u (Below t.sheets n xs) → Below u n xs ≡ Below t.sheets n xs
     same_below [] a = refl
     same_below (x ∷ xs) a =
         let one : pages_of t.sheets n x.page ≡ pages_of u n x.page = pages-same t.sheets u n x.page (λ q h. a q (omega (arith, h, times-append q (pages_of t.sheets n x.page) (Below t.sheets n xs)))) in
         let rest = same_below xs (λ q h. a q (omega (arith, h, times-append q (pages_of t.sheets n x.page) (Below t.sheets n xs)))) in
         λ i. sym one i ++ rest i
 
-    same_rows : (xs : List Entry) → AgreeOn t.sheets u (Below t.sheets n xs) → flat_map (λ e. rows_of cols u n e.page) xs ≡ flat_map (λ e. rows_of cols t.sheets n e.page) xs
+    pub same_rows : (xs : List Entry) → AgreeOn t.sheets u (Below t.sheets n xs) → flat_map (λ e. rows_of cols u n e.page) xs ≡ flat_map (λ e. rows_of cols t.sheets n e.page) xs
     same_rows [] a = refl
     same_rows (x ∷ xs) a =
         let one : rows_of cols t.sheets n x.page ≡ rows_of cols u n x.page = rows-same cols t.sheets u n x.page (λ q h. a q (omega (arith, h, times-append q (pages_of t.sheets n x.page) (Below t.sheets n xs)))) in
@@ -188,27 +185,27 @@ module _ (cols : List Column) (P : List Value → Type 0) (K : Key → Type 0) (
         λ i. sym one i ++ rest i
 
   module _ (r : ℕ) (h : AreEntries r) where
-    stays : fits (Inner (suc n) es) ≡ true → IsLaid (record { stand = with_sheet p (Inner (suc n) es) t; more = [] })
+    pub stays : fits (Inner (suc n) es) ≡ true → IsLaid (record { stand = with_sheet p (Inner (suc n) es) t; more = [] })
     stays fit =
         let u : PageId → Sheet = set_at t.sheets p (Inner (suc n) es) in
         let at : set_at t.sheets p (Inner (suc n) es) p ≡ Inner (suc n) es = set_same t.sheets p (Inner (suc n) es) in
         let small : used (slots_in (Inner (suc n) es)) ≤ 8192 = leb-true (used (slots_in (Inner (suc n) es))) 8192 fit in
         let agree : AgreeOn t.sheets (set_at t.sheets p (Inner (suc n) es)) (Below t.sheets n all) = λ q there. sym (set_other t.sheets p q (Inner (suc n) es) (apart q (omega (arith, h.once q, there)))) in
-        let sounds = sounds-same P K t.sheets (set_at t.sheets p (Inner (suc n) es)) n all agree h.sound in
+        let sounds = sounds-same P K R t.sheets (set_at t.sheets p (Inner (suc n) es)) n all agree h.sound in
         let entries : entries_at (set_at t.sheets p (Inner (suc n) es)) p ≡ all = ap (λ (x : Sheet). in_key_order (entries_in x)) at ∙ h.are in
-        let node : IsNode K n least (Inner (suc n) es) (λ e. IsSound P K (set_at t.sheets p (Inner (suc n) es)) n e.least e.page) = (
+        let node : IsNode K (R p) n least (Inner (suc n) es) (λ e. IsSound P K R (set_at t.sheets p (Inner (suc n) es)) n e.least e.page) = (
           refl,
-          record { small = small; last = h.last },
+          λ s. record { small = small; last = h.last },
           subst (HasSome n) (sym h.are) h.some,
           subst (ArePart least) (sym h.are) h.part,
-          subst (Each (IsEntry K)) (sym h.are) h.each,
-          subst (Each (λ e. IsSound P K (set_at t.sheets p (Inner (suc n) es)) n e.least e.page)) (sym h.are) sounds,
+          λ s. subst (Each (IsEntry K)) (sym h.are) h.each,
+          subst (Each (λ e. IsSound P K R (set_at t.sheets p (Inner (suc n) es)) n e.least e.page)) (sym h.are) sounds,
         ) in
         record {
           used = 0;
           claims = omega arith;
           few = omega arith;
-          sound = subst (λ (x : Sheet). IsNode K n least x (λ e. IsSound P K (set_at t.sheets p (Inner (suc n) es)) n e.least e.page)) (sym at) node;
+          sound = subst (λ (x : Sheet). IsNode K (R p) n least x (λ e. IsSound P K R (set_at t.sheets p (Inner (suc n) es)) n e.least e.page)) (sym at) node;
           new = tt;
           marks = append-nil (inside cols (set_at t.sheets p (Inner (suc n) es)) (suc n) p) ∙ ap (λ (l : List Entry). flat_map (marks_of (inside cols (set_at t.sheets p (Inner (suc n) es)) n)) (headless l)) entries ∙ same_marks (set_at t.sheets p (Inner (suc n) es)) agree;
           rows = append-nil (rows_of cols (set_at t.sheets p (Inner (suc n) es)) (suc n) p) ∙ ap (λ (l : List Entry). flat_map (λ e. rows_of cols (set_at t.sheets p (Inner (suc n) es)) n e.page) l) entries ∙ same_rows (set_at t.sheets p (Inner (suc n) es)) agree all agree;
@@ -219,10 +216,10 @@ module _ (cols : List Column) (P : List Value → Type 0) (K : Key → Type 0) (
     -- PAGES THAT WERE MADE
 
     module _ (u : PageId → Sheet) (agree : AgreeOn t.sheets u (Below t.sheets n all)) where
-      made_at : (part : Es) (page : PageId) → u page ≡ inner_of (suc n) part → Rises part → entries_at u page ≡ part
+      pub made_at : (part : Es) (page : PageId) → u page ≡ inner_of (suc n) part → Rises part → entries_at u page ≡ part
       made_at part page at rise = ap (λ (x : Sheet). in_key_order (entries_in x)) at ∙ risen_is part rise
 
-      made_marks : (es : Es) (ps : List Es) → AreMade (inner_of (suc n)) first_least claimed u es ps → Each Rises ps → Each (λ p. p ≢ []) ps → flat_map (marks_of (inside cols u (suc n))) es ≡ flat_map (marks_of (inside cols u n)) (joined ps)
+      pub made_marks : (es : Es) (ps : List Es) → AreMade (inner_of (suc n)) first_least claimed u es ps → Each Rises ps → Each (λ p. p ≢ []) ps → flat_map (marks_of (inside cols u (suc n))) es ≡ flat_map (marks_of (inside cols u n)) (joined ps)
       made_marks [] [] m r f = refl
       made_marks [] (part ∷ ps) m r f = absurd m
       made_marks (e ∷ es) [] m r f = absurd m
@@ -233,7 +230,7 @@ module _ (cols : List Column) (P : List Value → Type 0) (K : Key → Type 0) (
           let rest = made_marks es ps m.2 r.1 f.1 in
           (λ i. here i ++ rest i) ∙ sym (flat-append (marks_of (inside cols u n)) (x ∷ xs) (joined ps))
 
-      made_rows : (es : Es) (ps : List Es) → AreMade (inner_of (suc n)) first_least claimed u es ps → Each Rises ps → flat_map (λ e. rows_of cols u (suc n) e.page) es ≡ flat_map (λ e. rows_of cols u n e.page) (joined ps)
+      pub made_rows : (es : Es) (ps : List Es) → AreMade (inner_of (suc n)) first_least claimed u es ps → Each Rises ps → flat_map (λ e. rows_of cols u (suc n) e.page) es ≡ flat_map (λ e. rows_of cols u n e.page) (joined ps)
       made_rows [] [] m r = refl
       made_rows [] (part ∷ ps) m r = absurd m
       made_rows (e ∷ es) [] m r = absurd m
@@ -242,7 +239,7 @@ module _ (cols : List Column) (P : List Value → Type 0) (K : Key → Type 0) (
           let rest = made_rows es ps m.2 r.1 in
           (λ i. here i ++ rest i) ∙ sym (flat-append (λ e. rows_of cols u n e.page) part (joined ps))
 
-      made_pages : (q : PageId) (es : Es) (ps : List Es) → AreMade (inner_of (suc n)) first_least claimed u es ps → Each Rises ps → times q (Below u (suc n) es) ≡ times q (map (λ e. e.page) es) + times q (Below u n (joined ps))
+      pub made_pages : (q : PageId) (es : Es) (ps : List Es) → AreMade (inner_of (suc n)) first_least claimed u es ps → Each Rises ps → times q (Below u (suc n) es) ≡ times q (map (λ e. e.page) es) + times q (Below u n (joined ps))
       made_pages q [] [] m r = omega arith
       made_pages q [] (part ∷ ps) m r = absurd m
       made_pages q (e ∷ es) [] m r = absurd m
@@ -253,8 +250,8 @@ module _ (cols : List Column) (P : List Value → Type 0) (K : Key → Type 0) (
           let two = ap (times q) (flat-append (λ e. pages_of u n e.page) part (joined ps)) ∙ times-append q (Below u n part) (Below u n (joined ps)) in
           omega (arith, ap (times q) here, rest, one, two)
 
-      made_new : (es : Es) (ps : List Es) → AreMade (inner_of (suc n)) first_least claimed u es ps → Each (λ e. IsTarget e.page) es → Each Rises ps → Each (λ p. p ≢ []) ps → Each (λ p. total entry_size p ≤ 8090) ps → Each (Each (IsEntry K)) ps → Each (Each HasLeast) ps
-          → Each (Each (λ e. IsSound P K u n e.least e.page)) ps → Each (λ e. IsEntry K e × HasLeast e × IsSound P K u (suc n) e.least e.page) es
+      pub made_new : (es : Es) (ps : List Es) → AreMade (inner_of (suc n)) first_least claimed u es ps → Each (λ e. IsTarget e.page) es → Each Rises ps → Each (λ p. p ≢ []) ps → Each (λ p. total entry_size p ≤ 8090) ps → Each (Each (IsEntry K)) ps → Each (Each HasLeast) ps
+          → Each (Each (λ e. IsSound P K R u n e.least e.page)) ps → Each (λ e. IsEntry K e × HasLeast e × IsSound P K R u (suc n) e.least e.page) es
       made_new [] [] m targets r f fit each has sound = tt
       made_new [] (part ∷ ps) m targets r f fit each has sound = absurd m
       made_new (e ∷ es) [] m targets r f fit each has sound = absurd m
@@ -262,13 +259,13 @@ module _ (cols : List Column) (P : List Value → Type 0) (K : Key → Type 0) (
       made_new (e ∷ es) ((x ∷ xs) ∷ ps) m targets r f fit each has sound =
           let are : in_key_order (map Some (x ∷ xs)) ≡ x ∷ xs = risen_is (x ∷ xs) r.0 in
           let part : ArePart e.least (x ∷ xs) = (inr (sym m.0), has.0.1) in
-          let node : IsNode K n e.least (inner_of (suc n) (x ∷ xs)) (λ e. IsSound P K u n e.least e.page) =
-          (refl, fits_entries (suc n) (x ∷ xs) fit.0, subst (HasSome n) (sym are) (has_some n (x ∷ xs) f.0), subst (ArePart e.least) (sym are) part, subst (Each (IsEntry K)) (sym are) each.0, subst (Each (λ e. IsSound P K u n e.least e.page)) (sym are) sound.0) in (
-            (record { target = targets.0; least = subst (LeastIs K) (sym m.0) each.0.0.least }, subst (λ (o : Option Key). is_some o ≡ true) (sym m.0) has.0.0, subst (λ (y : Sheet). IsNode K n e.least y (λ e. IsSound P K u n e.least e.page)) (sym m.1) node),
+          let node : IsNode K (R e.page) n e.least (inner_of (suc n) (x ∷ xs)) (λ e. IsSound P K R u n e.least e.page) =
+          (refl, λ s. fits_entries (suc n) (x ∷ xs) fit.0, subst (HasSome n) (sym are) (has_some n (x ∷ xs) f.0), subst (ArePart e.least) (sym are) part, λ s. subst (Each (IsEntry K)) (sym are) each.0, subst (Each (λ e. IsSound P K R u n e.least e.page)) (sym are) sound.0) in (
+            (record { target = targets.0; least = subst (LeastIs K) (sym m.0) each.0.0.least }, subst (λ (o : Option Key). is_some o ≡ true) (sym m.0) has.0.0, subst (λ (y : Sheet). IsNode K (R e.page) n e.least y (λ e. IsSound P K R u n e.least e.page)) (sym m.1) node),
             made_new es ps m.2 targets.1 r.1 f.1 fit.1 each.1 has.1 sound.1,
           )
 
-    laid : (p0 : Es) (ps : List Es) → fill entry_size 8090 8090 (in_key_order es) ≡ p0 ∷ ps → (hand_out (inner_of (suc n)) first_least claimed ps (with_sheet p (inner_of (suc n) p0) t)).stand.claims ≤ t.claims + r
+    pub laid : (p0 : Es) (ps : List Es) → fill entry_size 8090 8090 (in_key_order es) ≡ p0 ∷ ps → (hand_out (inner_of (suc n)) first_least claimed ps (with_sheet p (inner_of (suc n) p0) t)).stand.claims ≤ t.claims + r
         → IsLaid (hand_out (inner_of (suc n)) first_least claimed ps (with_sheet p (inner_of (suc n) p0) t))
     laid p0 ps is budget =
         let g : Grown = hand_out (inner_of (suc n)) first_least claimed ps (with_sheet p (inner_of (suc n) p0) t) in
@@ -292,18 +289,18 @@ module _ (cols : List Column) (P : List Value → Type 0) (K : Key → Type 0) (
         let at : g.stand.sheets p ≡ inner_of (suc n) p0 = d.others p none_p ∙ set_same t.sheets p (inner_of (suc n) p0) in
         let agree : AgreeOn t.sheets g.stand.sheets (Below t.sheets n all) =
         λ q there. sym (d.others q (omega (arith, h.once q, there, claimed_fewer claimed t.claims (length ps) r q few)) ∙ set_other t.sheets p q (inner_of (suc n) p0) (apart q (omega (arith, h.once q, there)))) in
-        let sounds : Each (Each (λ e. IsSound P K g.stand.sheets n e.least e.page)) (p0 ∷ ps) =
-        parts_each (λ e. IsSound P K g.stand.sheets n e.least e.page) (p0 ∷ ps) (subst (Each (λ e. IsSound P K g.stand.sheets n e.least e.page)) (sym join) (sounds-same P K t.sheets g.stand.sheets n all agree h.sound)) in
+        let sounds : Each (Each (λ e. IsSound P K R g.stand.sheets n e.least e.page)) (p0 ∷ ps) =
+        parts_each (λ e. IsSound P K R g.stand.sheets n e.least e.page) (p0 ∷ ps) (subst (Each (λ e. IsSound P K R g.stand.sheets n e.least e.page)) (sym join) (sounds-same P K R t.sheets g.stand.sheets n all agree h.sound)) in
         let mine : entries_at g.stand.sheets p ≡ p0 = made_at g.stand.sheets agree p0 p at rise.0 in
         let are : in_key_order (map Some p0) ≡ p0 = risen_is p0 rise.0 in
         let some0 : HasSome n p0 = first_some p0 ps full.0 (subst (HasSome n) (sym join) h.some) in
-        let node : IsNode K n least (inner_of (suc n) p0) (λ e. IsSound P K g.stand.sheets n e.least e.page) =
-        (refl, fits_entries (suc n) p0 fits_all.0, subst (HasSome n) (sym are) some0, subst (ArePart least) (sym are) (part_left least p0 (joined ps) part), subst (Each (IsEntry K)) (sym are) each.0, subst (Each (λ e. IsSound P K g.stand.sheets n e.least e.page)) (sym are) sounds.0) in
+        let node : IsNode K (R p) n least (inner_of (suc n) p0) (λ e. IsSound P K R g.stand.sheets n e.least e.page) =
+        (refl, λ s. fits_entries (suc n) p0 fits_all.0, subst (HasSome n) (sym are) some0, subst (ArePart least) (sym are) (part_left least p0 (joined ps) part), λ s. subst (Each (IsEntry K)) (sym are) each.0, subst (Each (λ e. IsSound P K R g.stand.sheets n e.least e.page)) (sym are) sounds.0) in
         record {
           used = length ps;
           claims = d.claims;
           few = omega (arith, length_claimed claimed g.more t.claims (length ps) d.pages, two, ap (λ (l : List Es). length l) whole);
-          sound = subst (λ (y : Sheet). IsNode K n least y (λ e. IsSound P K g.stand.sheets n e.least e.page)) (sym at) node;
+          sound = subst (λ (y : Sheet). IsNode K (R p) n least y (λ e. IsSound P K R g.stand.sheets n e.least e.page)) (sym at) node;
           new = made_new g.stand.sheets agree g.more ps d.made (targets_of claimed g.more t.claims (length ps) d.pages (λ i low high. h.targets i low (omega (arith, high, few)))) rise.1 full.1 fits_all.1 each.1 has sounds.1;
           marks = (λ i. flat_map (marks_of (inside cols g.stand.sheets n)) (headless (mine i)) ++ made_marks g.stand.sheets agree g.more ps d.made rise.1 full.1 i)
               ∙ headless-append (inside cols g.stand.sheets n) p0 (joined ps) later ∙ ap (λ (l : Es). flat_map (marks_of (inside cols g.stand.sheets n)) (headless l)) join ∙ same_marks g.stand.sheets agree;

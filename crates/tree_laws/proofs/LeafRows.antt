@@ -64,13 +64,13 @@ from_sorted cols (Some r ∷ xs) cs ds m a =
     subst (λ (l : Rs). ByKeys cols (cs ++ r ∷ l) m) (sym (ap (λ (l : Rs). l ++ ds) p.are ∙ append_assoc p.front p.back ds)) (moved_back cols cs r p.front (p.back ++ ds) m there) in
     subst (λ (l : Rs). ByKeys cols l m) (append_assoc cs (r ∷ []) (rows_in xs ++ ds)) (from_sorted cols xs (cs ++ r ∷ []) ds m (subst (λ (l : Rs). ByKeys cols l m) (sym (append_assoc cs (r ∷ []) (rows_in_order cols xs ++ ds))) front))
 
-no_more : (cols : List Column) (k : Key) (xs ys : Rs) → is_there cols k xs ≡ false → is_there cols k ys ≡ false → is_there cols k (xs ++ ys) ≡ false
+pub no_more : (cols : List Column) (k : Key) (xs ys : Rs) → is_there cols k xs ≡ false → is_there cols k ys ≡ false → is_there cols k (xs ++ ys) ≡ false
 no_more cols k xs ys e f = is_there-append cols k xs ys ∙ (λ i. e i || f i)
 
-around : (cs front back ds : Rs) (r : List Value) → cs ++ ((front ++ r ∷ back) ++ ds) ≡ (cs ++ front) ++ r ∷ (back ++ ds)
+pub around : (cs front back ds : Rs) (r : List Value) → cs ++ ((front ++ r ∷ back) ++ ds) ≡ (cs ++ front) ++ r ∷ (back ++ ds)
 around cs front back ds r = ap (λ (l : Rs). cs ++ l) (append_assoc front (r ∷ back) ds) ∙ sym (append_assoc cs front (r ∷ (back ++ ds)))
 
-behind : (cols : List Column) (xs ys : Rs) (m : Rows) → ByKeys cols (xs ++ ys) m → (rest : Rows) × ByKeys cols ys rest
+pub behind : (cols : List Column) (xs ys : Rs) (m : Rows) → ByKeys cols (xs ++ ys) m → (rest : Rows) × ByKeys cols ys rest
 behind cols [] ys m a = (m, a)
 behind cols (x ∷ xs) ys m a = behind cols xs ys a.0 a.1
 

@@ -85,7 +85,7 @@ rows_in-some (r ∷ rs) = ap (λ (l : Rs). r ∷ l) (rows_in-some rs)
 
 -- LAST SLOTS
 
-full_cons : (x : List ℕ) (ys : List (List ℕ)) → x ≢ [] → LastIsFull ys → LastIsFull (x ∷ ys)
+pub full_cons : (x : List ℕ) (ys : List (List ℕ)) → x ≢ [] → LastIsFull ys → LastIsFull (x ∷ ys)
 full_cons x [] h l = h
 full_cons x (y ∷ ys) h l = l
 
@@ -266,28 +266,28 @@ first_or_none (x ∷ xs) p ps small e =
     let full : Each (λ p. p ≢ []) (p ∷ ps) = subst (Each (λ p. p ≢ [])) e (all_full row_size 8096 8096 x xs small.0) in
     (inl full.0, full.1)
 
-module _ (cols : List Column) (P : List Value → Type 0) (K : Key → Type 0) (rules : AreRules cols P K) (claimed : ℕ → PageId) (row : List Value) (good : P row) where
+module _ (cols : List Column) (P : List Value → Type 0) (K : Key → Type 0) (R : PageId → Bool) (rules : AreRules cols P K) (claimed : ℕ → PageId) (row : List Value) (good : P row) where
   bytes_each : (rs : Rs) → Each P rs → Each (λ r. row_bytes r ≢ []) rs
   bytes_each rs h = each-map P (λ r. row_bytes r ≢ []) rs (λ r p. rules.some r p) h
 
   size_each : (rs : Rs) → Each P rs → Each (λ r. row_size r ≤ 8096) rs
   size_each rs h = each-map P (λ r. row_size r ≤ 8096) rs (λ r p. rules.small r p) h
 
-  pub leaf_of : (part : Rs) → Each P part → total row_size part ≤ 8096 → IsLeaf P (leaf_of_rows part)
-  leaf_of part each fit = (refl, fits_rows part fit (bytes_each part each), subst (Each P) (sym (rows_in-some part)) each)
+  pub leaf_of : (seen : Bool) (part : Rs) → Each P part → total row_size part ≤ 8096 → IsLeaf P seen (leaf_of_rows part)
+  leaf_of seen part each fit = (refl, λ s. fits_rows part fit (bytes_each part each), subst (Each P) (sym (rows_in-some part)) each)
 
   new_pages : (t : PageId → Sheet) (es : List Entry) (ps : List Rs) → AreMade leaf_of_rows (first_key cols) claimed t es ps → Each (λ e. IsTarget e.page) es → Each (λ p. p ≢ []) ps → Each (Each P) ps → Each (λ p. total row_size p ≤ 8096) ps
-      → Each (λ e. IsEntry K e × HasLeast e × IsSound P K t 0 e.least e.page) es
+      → Each (λ e. IsEntry K e × HasLeast e × IsSound P K R t 0 e.least e.page) es
   new_pages t [] [] m targets full each fit = tt
   new_pages t [] (p ∷ ps) m targets full each fit = absurd m
   new_pages t (e ∷ es) [] m targets full each fit = absurd m
   new_pages t (e ∷ es) ([] ∷ ps) m targets full each fit = absurd (full.0 refl)
   new_pages t (e ∷ es) ((q ∷ qs) ∷ ps) m targets full each fit = (
-    (record { target = targets.0; least = subst (LeastIs K) (sym m.0) (rules.key q each.0.0) }, subst (λ (o : Option Key). is_some o ≡ true) (sym m.0) refl, subst (IsLeaf P) (sym m.1) (leaf_of (q ∷ qs) each.0 fit.0)),
+    (record { target = targets.0; least = subst (LeastIs K) (sym m.0) (rules.key q each.0.0) }, subst (λ (o : Option Key). is_some o ≡ true) (sym m.0) refl, subst (IsLeaf P (R e.page)) (sym m.1) (leaf_of (R e.page) (q ∷ qs) each.0 fit.0)),
     new_pages t es ps m.2 targets.1 full.1 each.1 fit.1,
   )
 
-  module _ (s : Stand) (least : Option Key) (p : PageId) (r : ℕ) (sound : IsSound P K s.sheets 0 least p) (asc : Ascend (inside cols s.sheets 0 p)) (free : IsFree P K claimed s.claims r (p ∷ [])) where
+  module _ (s : Stand) (least : Option Key) (p : PageId) (r : ℕ) (sound : IsSound P K R s.sheets 0 least p) (asc : Ascend (inside cols s.sheets 0 p)) (looked : R p ≡ true) (free : IsFree P K R claimed s.claims r (p ∷ [])) where
     -- the leaf with the row
     abbrev New : Leaf
     New = with_row cols row (leaf_in (s.sheets p))
@@ -298,7 +298,7 @@ module _ (cols : List Column) (P : List Value → Type 0) (K : Key → Type 0) (
     new_last : LastIsFull (map cell New)
     new_last =
         last_with cols row (leaf_in (s.sheets p)) (rules.some row good) (bytes_each (rows_in (leaf_in (s.sheets p))) sound.2)
-        (subst (λ (x : Sheet). LastIsFull (slots_in x)) sound.0 sound.1.last)
+        (subst (λ (x : Sheet). LastIsFull (slots_in x)) sound.0 (sound.1 looked).last)
 
     new_order : (xs ys : List Mark) → Ascend (xs ++ (inside cols s.sheets 0 p ++ ys)) → Each (λ m. Precedes m (Row (key_of cols row))) xs → Each (Precedes (Row (key_of cols row))) ys → Ascend (xs ++ (map (row_mark cols) (rows_in_order cols New) ++ ys))
     new_order xs ys a low high = leaf_order cols row (leaf_in (s.sheets p)) xs ys a low high
@@ -314,22 +314,22 @@ module _ (cols : List Column) (P : List Value → Type 0) (K : Key → Type 0) (
 
     new_total : total row_size (rows_in_order cols New) ≤ 8096 + 8096 + 1
     new_total =
-        let old : bytes_in (map cell (leaf_in (s.sheets p))) + 2 * length (map cell (leaf_in (s.sheets p))) ≤ 8096 = omega (arith, subst (λ (x : Sheet). used (slots_in x) ≤ 8192) sound.0 sound.1.small) in
+        let old : bytes_in (map cell (leaf_in (s.sheets p))) + 2 * length (map cell (leaf_in (s.sheets p))) ≤ 8096 = omega (arith, subst (λ (x : Sheet). used (slots_in x) ≤ 8192) sound.0 (sound.1 looked).small) in
         omega (arith, total_order cols New, total_with cols row (leaf_in (s.sheets p)) (subst Ascend (marks_are cols (leaf_in (s.sheets p))) asc), total_leaf (leaf_in (s.sheets p)), old, rules.small row good)
 
     apart : (q : PageId) → times q (p ∷ []) ≡ 0 → p ≢ q
     apart q none e = let there : 1 ≤ times q (p ∷ []) = subst (λ (x : PageId). 1 ≤ times q (x ∷ [])) (sym e) (times_here q []) in absurd (omega (arith, none, there))
 
-    stays : fits (Rows New) ≡ true → IsGrown P K cols claimed row 0 s least p (record { stand = with_sheet p (Rows New) s; more = [] })
+    stays : fits (Rows New) ≡ true → IsGrown P K R cols claimed row 0 s least p (record { stand = with_sheet p (Rows New) s; more = [] })
     stays fit =
         let at : set_at s.sheets p (Rows New) p ≡ Rows New = set_same s.sheets p (Rows New) in
         let small : used (slots_in (Rows New)) ≤ 8192 = leb-true (used (slots_in (Rows New))) 8192 fit in
-        let leaf_is : IsLeaf P (Rows New) = (refl, record { small = small; last = new_last }, new_each) in
+        let leaf_is : IsLeaf P (R p) (Rows New) = (refl, λ s. record { small = small; last = new_last }, new_each) in
         record {
           used = 0;
           claims = omega arith;
           few = omega arith;
-          sound = subst (IsLeaf P) (sym at) leaf_is;
+          sound = subst (IsLeaf P (R p)) (sym at) leaf_is;
           new = tt;
           order = λ xs ys a low high. subst (λ (l : List Mark). Ascend (xs ++ (l ++ ys))) (sym (append-nil (inside cols (set_at s.sheets p (Rows New)) 0 p) ∙ ap (λ (x : Sheet). map (row_mark cols) (rows_in_order cols (leaf_in x))) at)) (new_order xs ys a low high);
           rows = λ cs ds m a no_cs no_ds. subst (λ (l : Rs). ByKeys cols (cs ++ (l ++ ds)) (finite.insert m (key_of cols row) row)) (sym (append-nil (rows_of cols (set_at s.sheets p (Rows New)) 0 p) ∙ ap (λ (x : Sheet). rows_in_order cols (leaf_in x)) at)) (new_rows cs ds m a no_cs no_ds);
@@ -338,7 +338,7 @@ module _ (cols : List Column) (P : List Value → Type 0) (K : Key → Type 0) (
         }
 
     laid : (p0 : Rs) (ps : List Rs) → fill row_size 8096 8096 (rows_in_order cols New) ≡ p0 ∷ ps → (hand_out leaf_of_rows (first_key cols) claimed ps (with_sheet p (leaf_of_rows p0) s)).stand.claims ≤ s.claims + r
-        → IsGrown P K cols claimed row 0 s least p (hand_out leaf_of_rows (first_key cols) claimed ps (with_sheet p (leaf_of_rows p0) s))
+        → IsGrown P K R cols claimed row 0 s least p (hand_out leaf_of_rows (first_key cols) claimed ps (with_sheet p (leaf_of_rows p0) s))
     laid p0 ps is budget =
         let g : Grown = hand_out leaf_of_rows (first_key cols) claimed ps (with_sheet p (leaf_of_rows p0) s) in
         let few : length ps ≤ r = omega (arith, budget, hand_claims leaf_of_rows (first_key cols) claimed ps (with_sheet p (leaf_of_rows p0) s)) in
@@ -363,7 +363,7 @@ module _ (cols : List Column) (P : List Value → Type 0) (K : Key → Type 0) (
           used = length ps;
           claims = h.claims;
           few = omega (arith, length_claimed claimed g.more s.claims (length ps) h.pages, three, ap (λ (l : List Rs). length l) is);
-          sound = subst (IsLeaf P) (sym at) (leaf_of p0 eaches.0 fits_all.0);
+          sound = subst (IsLeaf P (R p)) (sym at) (leaf_of (R p) p0 eaches.0 fits_all.0);
           new = new_pages g.stand.sheets g.more ps h.made (targets_of claimed g.more s.claims (length ps) h.pages (λ i low high. free.targets i low (omega (arith, high, few)))) full.1 eaches.1 fits_all.1;
           order = λ xs ys a low high. subst (λ (l : List Mark). Ascend (xs ++ (l ++ ys))) (λ i. sym mine i ++ sym theirs i)
               (laid_order cols xs p0 ps ys full.0 full.1 (subst (λ (rs : Rs). Ascend (xs ++ (map (row_mark cols) rs ++ ys))) (sym all) (new_order xs ys a low high)));
@@ -372,15 +372,15 @@ module _ (cols : List Column) (P : List Value → Type 0) (K : Key → Type 0) (
           others = λ q none claims. h.others q claims ∙ set_other s.sheets p q (leaf_of_rows p0) (apart q none);
         }
 
-    pub leaf_grown : (put_below cols claimed row 0 p s).stand.claims ≤ s.claims + r → IsGrown P K cols claimed row 0 s least p (put_below cols claimed row 0 p s)
+    pub leaf_grown : (put_below cols claimed row 0 p s).stand.claims ≤ s.claims + r → IsGrown P K R cols claimed row 0 s least p (put_below cols claimed row 0 p s)
     leaf_grown budget = by (fits (Rows New)) refl budget
       where
-        parts : (ps : List Rs) → fill row_size 8096 8096 (rows_in_order cols New) ≡ ps → (lay leaf_of_rows (first_key cols) claimed p ps s).stand.claims ≤ s.claims + r → IsGrown P K cols claimed row 0 s least p (lay leaf_of_rows (first_key cols) claimed p ps s)
+        parts : (ps : List Rs) → fill row_size 8096 8096 (rows_in_order cols New) ≡ ps → (lay leaf_of_rows (first_key cols) claimed p ps s).stand.claims ≤ s.claims + r → IsGrown P K R cols claimed row 0 s least p (lay leaf_of_rows (first_key cols) claimed p ps s)
         parts [] is b = absurd (some_part row_size 8096 8096 (rows_in_order cols New) is)
         parts (p0 ∷ ps) is b = laid p0 ps is b
 
         by : (b : Bool) → fits (Rows New) ≡ b
             → (cond b (record { stand = with_sheet p (Rows New) s; more = [] }) (lay leaf_of_rows (first_key cols) claimed p (fill row_size 8096 8096 (rows_in_order cols New)) s)).stand.claims ≤ s.claims + r
-            → IsGrown P K cols claimed row 0 s least p (cond b (record { stand = with_sheet p (Rows New) s; more = [] }) (lay leaf_of_rows (first_key cols) claimed p (fill row_size 8096 8096 (rows_in_order cols New)) s))
+            → IsGrown P K R cols claimed row 0 s least p (cond b (record { stand = with_sheet p (Rows New) s; more = [] }) (lay leaf_of_rows (first_key cols) claimed p (fill row_size 8096 8096 (rows_in_order cols New)) s))
         by true fit b = stays fit
         by false fit b = parts (fill row_size 8096 8096 (rows_in_order cols New)) refl b

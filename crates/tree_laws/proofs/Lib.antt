@@ -18,4 +18,15 @@ pub mod LeafStep
 pub mod InnerLay
 pub mod InnerStep
 pub mod PutBelow
+pub mod Taller
+pub mod PutRoot
+pub mod CutLeaf
+pub mod CutBelow
+pub mod Folds
+pub mod KeyFields
+pub mod TreeStays
+pub mod TypedPages
+pub mod TableTyped
+pub mod TreeWalked
+pub mod TableTrees
 pub mod Totals

@@ -2,11 +2,7 @@
 use Rattle.std.proofs.Common.{◌≡◌, Bool, true, false, ◌&&◌, List, [], ◌∷◌, ◌++◌, refl, ap, sym, ◌∙◌}
 use Rattle.std.specs.List.{flat_map, list_all}
 use Rattle.tree_laws.specs.Order.{Mark, precedes, ascend}
-
--- each of some things
-abbrev pub Each : {X : Type 0} → (X → Type 0) → List X → Type 0
-Each P [] = Unit {0}
-Each P (x ∷ xs) = P x × Each P xs
+pub use Rattle.tree_laws.specs.Trees.{Each}
 
 -- a mark may stand before another
 abbrev pub Precedes : Mark → Mark → Type 0

@@ -1,5 +1,5 @@
 -- A row is put below a page of any level: what is there then is sound and in order, with the row and no other change.
-use Rattle.std.proofs.Common.{◌≡◌, ◌≢◌, ◌≤◌, ◌+◌, ◌-◌, ◌*◌, ℕ, zero, suc, true, false, List, [], ◌∷◌, ◌++◌, length, map, refl, ap, sym, ◌∙◌, subst, arith, append_assoc, append-nil, ◌⊎◌, inl, inr}
+use Rattle.std.proofs.Common.{Bool, ◌≡◌, ◌≢◌, ◌≤◌, ◌+◌, ◌-◌, ◌*◌, ℕ, zero, suc, true, false, List, [], ◌∷◌, ◌++◌, length, map, refl, ap, sym, ◌∙◌, subst, arith, append_assoc, append-nil, ◌⊎◌, inl, inr}
 use Rattle.std.specs.Prelude.{Option, None, Some, is_some}
 use Rattle.std.specs.List.{flat_map}
 use Rattle.std.specs.FinMap as finite
@@ -28,7 +28,7 @@ use Rattle.tree_laws.proofs.KeyOrder.{Below as KeyBelow, Upto, above_of}
 use Rattle.tree_laws.proofs.LeafStep.{leaf_of, leaf_grown}
 use Rattle.tree_laws.proofs.Lists.{Each, Precedes, Ascend, each-left, each-right, each-append, each-map, ascend-left, ascend-right, ascend-before, flat-append}
 use Rattle.tree_laws.proofs.MarkLemmas.{ascend-put}
-use Rattle.tree_laws.proofs.Sound.{AreRules, HasLeast, ArePart, HasSome, IsEntry, IsNode, IsLeaf, IsSound, sounds-same, IsFree, IsGrown}
+use Rattle.tree_laws.proofs.Sound.{AreRules, HasLeast, ArePart, HasSome, IsEntry, IsNode, IsLeaf, IsSound, Via, OnPath, sounds-same, IsFree, IsGrown}
 use Rattle.tree_laws.proofs.Times.{times, times-append, times_here, times_first, set_same, set_other, AgreeOn, agree-left, agree-right, Below, marks-same, inside-same, pages-same, rows-same}
 
 abbrev Es : Type 0
@@ -39,11 +39,11 @@ Rs = List (List Value)
 
 -- WHAT STANDS ON BOTH SIDES OF THE CHILD
 
-record AreSides (k : Key) (w : PageId → List Mark) (least : Option Key) (before : Es) (ch : Entry) (after : Es) : Type 0 where
-  low : Each (λ m. Precedes m (Row k)) (front w before ch)
-  high : Each (Precedes (Row k)) (flat_map (marks_of w) after)
-  mid : Ascend (own ch.least ++ w ch.page)
-  upto : Each (λ m. Precedes m (Row k)) (own ch.least)
+pub record AreSides (k : Key) (w : PageId → List Mark) (least : Option Key) (before : Es) (ch : Entry) (after : Es) : Type 0 where
+  pub low : Each (λ m. Precedes m (Row k)) (front w before ch)
+  pub high : Each (Precedes (Row k)) (flat_map (marks_of w) after)
+  pub mid : Ascend (own ch.least ++ w ch.page)
+  pub upto : Each (λ m. Precedes m (Row k)) (own ch.least)
 
 high_side : (k : Key) (w : PageId → List Mark) (after : Es) → IsBehind k after → Each HasLeast after → Ascend (flat_map (marks_of w) after) → Each (Precedes (Row k)) (flat_map (marks_of w) after)
 high_side k w [] behind has a = tt
@@ -57,7 +57,7 @@ high_side k w (d ∷ ds) behind has a = by d.least refl
         subst (λ (o : Option Key). Each (Precedes (Row k)) ((own o ++ w d.page) ++ flat_map (marks_of w) ds)) (sym is)
         (over, each-map (Precedes (Least l)) (Precedes (Row k)) (w d.page ++ flat_map (marks_of w) ds) (λ m p. after_row m l k over p) whole.0)
 
-sides : (k : Key) (w : PageId → List Mark) (least : Option Key) (before : Es) (ch : Entry) (after : Es) → (before ≡ []) ⊎ (is_upto ch.least (Some k) ≡ true) → IsBehind k after → ArePart least (before ++ ch ∷ after)
+pub sides : (k : Key) (w : PageId → List Mark) (least : Option Key) (before : Es) (ch : Entry) (after : Es) → (before ≡ []) ⊎ (is_upto ch.least (Some k) ≡ true) → IsBehind k after → ArePart least (before ++ ch ∷ after)
     → Ascend (own least ++ flat_map (marks_of w) (headless (before ++ ch ∷ after))) → Each (λ m. Precedes m (Row k)) (own least) → AreSides k w least before ch after
 sides k w least [] ch after low behind part a upto = by part.0
   where
@@ -120,7 +120,7 @@ part_more least (b ∷ bs) ch more after has part = (
       ((each-right HasLeast bs (ch ∷ after) part.1).0, each-append HasLeast more after has (each-right HasLeast bs (ch ∷ after) part.1).1),
 )
 
-each_more : (P : Entry → Type 0) (before : Es) (ch : Entry) (more after : Es) → Each P before → P ch → Each P more → Each P after → Each P (before ++ ch ∷ (more ++ after))
+pub each_more : (P : Entry → Type 0) (before : Es) (ch : Entry) (more after : Es) → Each P before → P ch → Each P more → Each P after → Each P (before ++ ch ∷ (more ++ after))
 each_more P before ch more after b c m a = each-append P before (ch ∷ (more ++ after)) b (c, each-append P more after m a)
 
 some_more : (n : ℕ) (before : Es) (ch : Entry) (after : Es) → HasSome n (before ++ ch ∷ after)
@@ -128,139 +128,158 @@ some_more zero before ch after = tt
 some_more (suc n) [] ch after = tt
 some_more (suc n) (b ∷ bs) ch after = tt
 
-times_around : (q : PageId) (s : PageId → Sheet) (n : ℕ) (before : Es) (ch : Entry) (after : Es) → times q (Below s n (before ++ ch ∷ after)) ≡ times q (Below s n before) + (times q (pages_of s n ch.page) + times q (Below s n after))
+pub times_around : (q : PageId) (s : PageId → Sheet) (n : ℕ) (before : Es) (ch : Entry) (after : Es) → times q (Below s n (before ++ ch ∷ after)) ≡ times q (Below s n before) + (times q (pages_of s n ch.page) + times q (Below s n after))
 times_around q s n before ch after =
     ap (times q) (flat-append (λ e. pages_of s n e.page) before (ch ∷ after)) ∙ times-append q (Below s n before) (Below s n (ch ∷ after))
     ∙ ap (λ (m : ℕ). times q (Below s n before) + m) (times-append q (pages_of s n ch.page) (Below s n after))
 
-below-same : (s t : PageId → Sheet) (n : ℕ) (xs : Es) → AgreeOn s t (Below s n xs) → Below s n xs ≡ Below t n xs
+pub below-same : (s t : PageId → Sheet) (n : ℕ) (xs : Es) → AgreeOn s t (Below s n xs) → Below s n xs ≡ Below t n xs
 below-same s t n [] a = refl
 below-same s t n (x ∷ xs) a =
     let one : pages_of s n x.page ≡ pages_of t n x.page = pages-same s t n x.page (agree-left s t (pages_of s n x.page) (Below s n xs) a) in
     let rest = below-same s t n xs (agree-right s t (pages_of s n x.page) (Below s n xs) a) in
     λ i. one i ++ rest i
 
-many-rows-same : (cols : List Column) (s t : PageId → Sheet) (n : ℕ) (xs : Es) → AgreeOn s t (Below s n xs) → flat_map (λ e. rows_of cols s n e.page) xs ≡ flat_map (λ e. rows_of cols t n e.page) xs
+pub many-rows-same : (cols : List Column) (s t : PageId → Sheet) (n : ℕ) (xs : Es) → AgreeOn s t (Below s n xs) → flat_map (λ e. rows_of cols s n e.page) xs ≡ flat_map (λ e. rows_of cols t n e.page) xs
 many-rows-same cols s t n [] a = refl
 many-rows-same cols s t n (x ∷ xs) a =
     let one : rows_of cols s n x.page ≡ rows_of cols t n x.page = rows-same cols s t n x.page (agree-left s t (pages_of s n x.page) (Below s n xs) a) in
     let rest = many-rows-same cols s t n xs (agree-right s t (pages_of s n x.page) (Below s n xs) a) in
     λ i. one i ++ rest i
 
-module _ (cols : List Column) (P : List Value → Type 0) (K : Key → Type 0) (rules : AreRules cols P K) (claimed : ℕ → PageId) (row : List Value) (good : P row) where
+module _ (cols : List Column) (P : List Value → Type 0) (K : Key → Type 0) (R : PageId → Bool) (rules : AreRules cols P K) (claimed : ℕ → PageId) (row : List Value) (good : P row) where
   -- the entries of a page once a row was put below one of them
-  record IsMid (n : ℕ) (s : Stand) (least : Option Key) (p : PageId) (t : Stand) (all : Es) : Type 0 where
-    used : ℕ
-    claims : t.claims ≡ s.claims + used
-    each : Each (IsEntry K) all
-    part : ArePart least all
-    some : HasSome n all
-    sound : Each (λ e. IsSound P K t.sheets n e.least e.page) all
-    order : (xs ys : List Mark) → Ascend (xs ++ (inside cols s.sheets (suc n) p ++ ys)) → Each (λ m. Precedes m (Row (key_of cols row))) xs → Each (Precedes (Row (key_of cols row))) ys
+  pub record IsMid (n : ℕ) (s : Stand) (least : Option Key) (p : PageId) (t : Stand) (all : Es) : Type 0 where
+    pub used : ℕ
+    pub claims : t.claims ≡ s.claims + used
+    pub each : Each (IsEntry K) all
+    pub part : ArePart least all
+    pub some : HasSome n all
+    pub sound : Each (λ e. IsSound P K R t.sheets n e.least e.page) all
+    pub order : (xs ys : List Mark) → Ascend (xs ++ (inside cols s.sheets (suc n) p ++ ys)) → Each (λ m. Precedes m (Row (key_of cols row))) xs → Each (Precedes (Row (key_of cols row))) ys
         → Ascend (xs ++ (flat_map (marks_of (inside cols t.sheets n)) (headless all) ++ ys))
-    rows : (cs ds : Rs) (m : Map) → ByKeys cols (cs ++ (rows_of cols s.sheets (suc n) p ++ ds)) m → is_there cols (key_of cols row) cs ≡ false → is_there cols (key_of cols row) ds ≡ false
+    pub rows : (cs ds : Rs) (m : Map) → ByKeys cols (cs ++ (rows_of cols s.sheets (suc n) p ++ ds)) m → is_there cols (key_of cols row) cs ≡ false → is_there cols (key_of cols row) ds ≡ false
         → ByKeys cols (cs ++ (flat_map (λ e. rows_of cols t.sheets n e.page) all ++ ds)) (finite.insert m (key_of cols row) row)
-    pages : (q : PageId) → times q (Below t.sheets n all) ≡ times q (Below s.sheets n (entries_at s.sheets p)) + times q (claimed_from claimed s.claims used)
-    others : (q : PageId) → times q (Below s.sheets n (entries_at s.sheets p)) ≡ 0 → times q (claimed_from claimed s.claims used) ≡ 0 → t.sheets q ≡ s.sheets q
+    pub pages : (q : PageId) → times q (Below t.sheets n all) ≡ times q (Below s.sheets n (entries_at s.sheets p)) + times q (claimed_from claimed s.claims used)
+    pub others : (q : PageId) → times q (Below s.sheets n (entries_at s.sheets p)) ≡ 0 → times q (claimed_from claimed s.claims used) ≡ 0 → t.sheets q ≡ s.sheets q
+
+  -- the page gets the entries of new pages, and has its own among them
+  pub record IsRisen (n : ℕ) (s : Stand) (least : Option Key) (p : PageId) (g : Grown) : Type 0 where
+    pub all : Es
+    pub mid : IsMid n s least p g.stand all
+    pub are : in_key_order (put_entries g.more (entries_in (s.sheets p))) ≡ all
+    pub rises : Rises all
+    pub fresh : Each (IsEntry K) g.more
+    pub few : length g.more ≤ 2
 
   abbrev pub Grows : ℕ → Type 0
-  Grows n = (s : Stand) (least : Option Key) (p : PageId) (r : ℕ) → IsSound P K s.sheets n least p → Ascend (own least ++ inside cols s.sheets n p) → Each (λ m. Precedes m (Row (key_of cols row))) (own least)
-      → IsFree P K claimed s.claims r (pages_of s.sheets n p) → (put_below cols claimed row n p s).stand.claims ≤ s.claims + r → IsGrown P K cols claimed row n s least p (put_below cols claimed row n p s)
+  Grows n = (s : Stand) (least : Option Key) (p : PageId) (r : ℕ) → IsSound P K R s.sheets n least p → Ascend (own least ++ inside cols s.sheets n p) → Each (λ m. Precedes m (Row (key_of cols row))) (own least)
+      → IsFree P K R claimed s.claims r (pages_of s.sheets n p) → OnPath R s.sheets (key_of cols row) n p → (put_below cols claimed row n p s).stand.claims ≤ s.claims + r → IsGrown P K R cols claimed row n s least p (put_below cols claimed row n p s)
 
-  module _ (n : ℕ) (s : Stand) (least : Option Key) (p : PageId) (r : ℕ) (sound : IsSound P K s.sheets (suc n) least p) (asc : Ascend (own least ++ inside cols s.sheets (suc n) p)) (upto : Each (λ m. Precedes m (Row (key_of cols row))) (own least))
-      (free : IsFree P K claimed s.claims r (pages_of s.sheets (suc n) p)) where
+  module _ (n : ℕ) (s : Stand) (least : Option Key) (p : PageId) (r : ℕ) (sound : IsSound P K R s.sheets (suc n) least p) (asc : Ascend (own least ++ inside cols s.sheets (suc n) p)) (upto : Each (λ m. Precedes m (Row (key_of cols row))) (own least))
+      (free : IsFree P K R claimed s.claims r (pages_of s.sheets (suc n) p)) (looked : R p ≡ true) where
     k : Key
     k = key_of cols row
 
     -- THE PAGE GETS THE ENTRIES
 
-    -- the entries of new pages that the page gets, and its own among them
-    finish : (g : Grown) (all : Es) (m : IsMid n s least p g.stand all) → in_key_order (put_entries g.more (entries_in (s.sheets p))) ≡ all → Rises all → Each (IsEntry K) g.more → length g.more ≤ 2 → (rise claimed p (suc n) (entries_in (s.sheets p)) g).stand.claims ≤ s.claims + r
-        → IsGrown P K cols claimed row (suc n) s least p (rise claimed p (suc n) (entries_in (s.sheets p)) g)
-    finish g all m are rises fresh fewer budget = by g.more are fresh fewer budget
+    room_of : (more : Es) → Each (IsEntry K) more → length more ≤ 2 → total entry_size more ≤ 1814
+    room_of [] h f = omega arith
+    room_of (a ∷ []) h f = omega (arith, size_of cols P K rules a h.0)
+    room_of (a ∷ b ∷ []) h f = omega (arith, size_of cols P K rules a h.0, size_of cols P K rules b h.1.0)
+    room_of (a ∷ b ∷ c ∷ more) h f = absurd (omega (arith, f))
+
+    none_p : times p (Below s.sheets n (entries_at s.sheets p)) ≡ 0
+    none_p = omega (arith, free.once p, times_first p (Below s.sheets n (entries_at s.sheets p)))
+
+    -- nothing new: the page stays as it was
+    pub stays_as_it_was : (g : Grown) (x : IsRisen n s least p g) → g.more ≡ [] → g.stand.claims ≤ s.claims + r → IsGrown P K R cols claimed row (suc n) s least p (record { stand = g.stand; more = [] })
+    stays_as_it_was g x nothing budget =
+        let m : IsMid n s least p g.stand x.all = x.mid in
+        let are : in_key_order (entries_in (s.sheets p)) ≡ x.all = ap (λ (l : Es). in_key_order (put_entries l (entries_in (s.sheets p)))) (sym nothing) ∙ x.are in
+        let few : m.used ≤ r = omega (arith, budget, m.claims) in
+        let at : g.stand.sheets p ≡ s.sheets p = m.others p none_p (omega (arith, free.once p, times_first p (Below s.sheets n (entries_at s.sheets p)), claimed_fewer claimed s.claims m.used r p few)) in
+        let entries : entries_at g.stand.sheets p ≡ x.all = ap (λ (y : Sheet). in_key_order (entries_in y)) at ∙ are in
+        let node : IsNode K (R p) n least (s.sheets p) (λ e. IsSound P K R g.stand.sheets n e.least e.page) =
+        (sound.0, sound.1, sound.2, sound.3, sound.4, subst (Each (λ e. IsSound P K R g.stand.sheets n e.least e.page)) (sym are) m.sound) in
+        record {
+          used = m.used;
+          claims = m.claims;
+          few = omega arith;
+          sound = subst (λ (y : Sheet). IsNode K (R p) n least y (λ e. IsSound P K R g.stand.sheets n e.least e.page)) (sym at) node;
+          new = tt;
+          order = λ xs ys a low high. subst (λ (l : List Mark). Ascend (xs ++ (l ++ ys))) (sym (append-nil (inside cols g.stand.sheets (suc n) p) ∙ ap (λ (l : Es). flat_map (marks_of (inside cols g.stand.sheets n)) (headless l)) entries)) (m.order xs ys a low high);
+          rows = λ cs ds mm a no_cs no_ds. subst (λ (l : Rs). ByKeys cols (cs ++ (l ++ ds)) (finite.insert mm (key_of cols row) row)) (sym (append-nil (rows_of cols g.stand.sheets (suc n) p) ∙ ap (λ (l : Es). flat_map (λ e. rows_of cols g.stand.sheets n e.page) l) entries)) (m.rows cs ds mm a no_cs no_ds);
+          pages = λ q. omega (arith, m.pages q, ap (λ (l : Es). times q (Below g.stand.sheets n l)) entries);
+          others = λ q none claims. m.others q (omega (arith, none)) claims;
+        }
+
+    -- the entries that are to stand on the page and on new ones
+    pub entries_to_lay : (g : Grown) (x : IsRisen n s least p g) → g.stand.claims ≤ s.claims + r → AreEntries cols P K R rules claimed n least p g.stand x.all (put_entries g.more (entries_in (s.sheets p))) (r - x.mid.used)
+    entries_to_lay g x budget =
+        let m : IsMid n s least p g.stand x.all = x.mid in
+        let few : m.used ≤ r = omega (arith, budget, m.claims) in
+        let all_of : m.used + (r - m.used) ≡ r = omega arith in
+        let old_room : bytes_in (map entry_bytes (entries_in (s.sheets p))) + 2 * length (map entry_bytes (entries_in (s.sheets p))) ≤ 8090 =
+        omega (arith, subst (λ (y : Sheet). used (slots_in y) ≤ 8192) sound.0 (sound.1 looked).small, length-number 4 (suc n)) in
+        let count : (q : PageId) → times q (claimed_from claimed s.claims r) ≡ times q (claimed_from claimed s.claims m.used) + times q (claimed_from claimed g.stand.claims (r - m.used)) =
+        λ q. ap (λ (c : ℕ). times q (claimed_from claimed s.claims c)) (sym all_of) ∙ times_claimed claimed s.claims m.used (r - m.used) q ∙ ap (λ (c : ℕ). times q (claimed_from claimed s.claims m.used) + times q (claimed_from claimed c (r - m.used))) (sym m.claims) in
+        record {
+          are = x.are;
+          rises = x.rises;
+          each = m.each;
+          part = m.part;
+          some = m.some;
+          sound = m.sound;
+          last = last_inner (suc n) g.more (entries_in (s.sheets p)) (subst (λ (y : Sheet). LastIsFull (slots_in y)) sound.0 (sound.1 looked).last);
+          total = omega (arith, ap (total entry_size) x.are, total_puts g.more (entries_in (s.sheets p)), total_slots (entries_in (s.sheets p)), old_room, room_of g.more x.fresh x.few);
+          once = λ q. omega (arith, m.pages q, free.once q, count q);
+          targets = λ i low high. free.targets i (omega (arith, low, m.claims)) (omega (arith, high, m.claims, few));
+        }
+
+    -- what laying them makes of the page
+    pub grown_of : (g : Grown) (x : IsRisen n s least p g) (h : Grown) → IsLaid cols P K R rules claimed n least p g.stand x.all (put_entries g.more (entries_in (s.sheets p))) h → IsGrown P K R cols claimed row (suc n) s least p h
+    grown_of g x h d =
+        let m : IsMid n s least p g.stand x.all = x.mid in
+        let sum : (q : PageId) → times q (claimed_from claimed s.claims (m.used + d.used)) ≡ times q (claimed_from claimed s.claims m.used) + times q (claimed_from claimed g.stand.claims d.used) =
+        λ q. times_claimed claimed s.claims m.used d.used q ∙ ap (λ (c : ℕ). times q (claimed_from claimed s.claims m.used) + times q (claimed_from claimed c d.used)) (sym m.claims) in
+        record {
+          used = m.used + d.used;
+          claims = omega (arith, d.claims, m.claims);
+          few = d.few;
+          sound = d.sound;
+          new = d.new;
+          order = λ xs ys a low high. subst (λ (l : List Mark). Ascend (xs ++ (l ++ ys))) (sym d.marks) (m.order xs ys a low high);
+          rows = λ cs ds mm a no_cs no_ds. subst (λ (l : Rs). ByKeys cols (cs ++ (l ++ ds)) (finite.insert mm (key_of cols row) row)) (sym d.rows) (m.rows cs ds mm a no_cs no_ds);
+          pages = λ q. omega (arith, d.pages q, m.pages q, sum q);
+          others = λ q none claims. d.others q (omega (arith, none)) (omega (arith, claims, sum q)) ∙ m.others q (omega (arith, none)) (omega (arith, claims, sum q));
+        }
+
+    finish : (g : Grown) (x : IsRisen n s least p g) → g.stand.claims ≤ s.claims + r → (rise claimed p (suc n) (entries_in (s.sheets p)) g).stand.claims ≤ s.claims + r → IsGrown P K R cols claimed row (suc n) s least p (rise claimed p (suc n) (entries_in (s.sheets p)) g)
+    finish g x room budget = by g.more refl budget
       where
-        old_room : bytes_in (map entry_bytes (entries_in (s.sheets p))) + 2 * length (map entry_bytes (entries_in (s.sheets p))) ≤ 8090
-        old_room = omega (arith, subst (λ (x : Sheet). used (slots_in x) ≤ 8192) sound.0 sound.1.small, length-number 4 (suc n))
+        -- the same with the entries written out
+        laid : (e : Entry) (more : Es) → e ∷ more ≡ g.more → (to_inner claimed p (suc n) (put_entries (e ∷ more) (entries_in (s.sheets p))) g.stand).stand.claims ≤ s.claims + r
+            → IsGrown P K R cols claimed row (suc n) s least p (to_inner claimed p (suc n) (put_entries (e ∷ more) (entries_in (s.sheets p))) g.stand)
+        laid e more are b =
+            subst (λ (l : Es). (to_inner claimed p (suc n) (put_entries l (entries_in (s.sheets p))) g.stand).stand.claims ≤ s.claims + r → IsGrown P K R cols claimed row (suc n) s least p (to_inner claimed p (suc n) (put_entries l (entries_in (s.sheets p))) g.stand)) (sym are)
+            (λ c. grown_of g x (to_inner claimed p (suc n) (put_entries g.more (entries_in (s.sheets p))) g.stand)
+            (inner_laid cols P K R rules claimed n least p g.stand x.all (put_entries g.more (entries_in (s.sheets p))) (r - x.mid.used) (entries_to_lay g x room) (omega (arith, c, x.mid.claims, room)))) b
 
-        room_of : (more : Es) → Each (IsEntry K) more → length more ≤ 2 → total entry_size more ≤ 1814
-        room_of [] h f = omega arith
-        room_of (a ∷ []) h f = omega (arith, size_of cols P K rules a h.0)
-        room_of (a ∷ b ∷ []) h f = omega (arith, size_of cols P K rules a h.0, size_of cols P K rules b h.1.0)
-        room_of (a ∷ b ∷ c ∷ more) h f = absurd (omega (arith, f))
-
-        none_p : times p (Below s.sheets n (entries_at s.sheets p)) ≡ 0
-        none_p = omega (arith, free.once p, times_first p (Below s.sheets n (entries_at s.sheets p)))
-
-        -- nothing new: the page stays as it was
-        same : in_key_order (entries_in (s.sheets p)) ≡ all → g.stand.claims ≤ s.claims + r → IsGrown P K cols claimed row (suc n) s least p (record { stand = g.stand; more = [] })
-        same are budget =
-            let few : m.used ≤ r = omega (arith, budget, m.claims) in
-            let at : g.stand.sheets p ≡ s.sheets p = m.others p none_p (omega (arith, free.once p, times_first p (Below s.sheets n (entries_at s.sheets p)), claimed_fewer claimed s.claims m.used r p few)) in
-            let entries : entries_at g.stand.sheets p ≡ all = ap (λ (x : Sheet). in_key_order (entries_in x)) at ∙ are in
-            let node : IsNode K n least (s.sheets p) (λ e. IsSound P K g.stand.sheets n e.least e.page) =
-            (sound.0, sound.1, sound.2, sound.3, sound.4, subst (Each (λ e. IsSound P K g.stand.sheets n e.least e.page)) (sym are) m.sound) in
-            record {
-              used = m.used;
-              claims = m.claims;
-              few = omega arith;
-              sound = subst (λ (x : Sheet). IsNode K n least x (λ e. IsSound P K g.stand.sheets n e.least e.page)) (sym at) node;
-              new = tt;
-              order = λ xs ys a low high. subst (λ (l : List Mark). Ascend (xs ++ (l ++ ys))) (sym (append-nil (inside cols g.stand.sheets (suc n) p) ∙ ap (λ (l : Es). flat_map (marks_of (inside cols g.stand.sheets n)) (headless l)) entries)) (m.order xs ys a low high);
-              rows = λ cs ds mm a no_cs no_ds. subst (λ (l : Rs). ByKeys cols (cs ++ (l ++ ds)) (finite.insert mm (key_of cols row) row)) (sym (append-nil (rows_of cols g.stand.sheets (suc n) p) ∙ ap (λ (l : Es). flat_map (λ e. rows_of cols g.stand.sheets n e.page) l) entries)) (m.rows cs ds mm a no_cs no_ds);
-              pages = λ q. omega (arith, m.pages q, ap (λ (l : Es). times q (Below g.stand.sheets n l)) entries);
-              others = λ q none claims. m.others q (omega (arith, none)) claims;
-            }
-
-        laid : (more : Es) → in_key_order (put_entries more (entries_in (s.sheets p))) ≡ all → Each (IsEntry K) more → length more ≤ 2 → (to_inner claimed p (suc n) (put_entries more (entries_in (s.sheets p))) g.stand).stand.claims ≤ s.claims + r
-            → IsGrown P K cols claimed row (suc n) s least p (to_inner claimed p (suc n) (put_entries more (entries_in (s.sheets p))) g.stand)
-        laid more are fresh fewer budget =
-            let es : List (Option Entry) = put_entries more (entries_in (s.sheets p)) in
-            let few : m.used ≤ r = omega (arith, budget, m.claims, inner_claims cols P K rules claimed n least p g.stand all es) in
-            let left : ℕ = r - m.used in
-            let all_of : m.used + (r - m.used) ≡ r = omega arith in
-            let count : (q : PageId) → times q (claimed_from claimed s.claims r) ≡ times q (claimed_from claimed s.claims m.used) + times q (claimed_from claimed g.stand.claims (r - m.used)) =
-            λ q. ap (λ (c : ℕ). times q (claimed_from claimed s.claims c)) (sym all_of) ∙ times_claimed claimed s.claims m.used (r - m.used) q ∙ ap (λ (c : ℕ). times q (claimed_from claimed s.claims m.used) + times q (claimed_from claimed c (r - m.used))) (sym m.claims) in
-            let h : AreEntries cols P K rules claimed n least p g.stand all es (r - m.used) = record {
-              are = are;
-              rises = rises;
-              each = m.each;
-              part = m.part;
-              some = m.some;
-              sound = m.sound;
-              last = last_inner (suc n) more (entries_in (s.sheets p)) (subst (λ (x : Sheet). LastIsFull (slots_in x)) sound.0 sound.1.last);
-              total = omega (arith, ap (total entry_size) are, total_puts more (entries_in (s.sheets p)), total_slots (entries_in (s.sheets p)), old_room, room_of more fresh fewer);
-              once = λ q. omega (arith, m.pages q, free.once q, count q);
-              targets = λ i low high. free.targets i (omega (arith, low, m.claims)) (omega (arith, high, m.claims, few));
-            } in
-            let d : IsLaid cols P K rules claimed n least p g.stand all es (to_inner claimed p (suc n) es g.stand) = inner_laid cols P K rules claimed n least p g.stand all es (r - m.used) h (omega (arith, budget, m.claims, few)) in
-            let sum : (q : PageId) → times q (claimed_from claimed s.claims (m.used + d.used)) ≡ times q (claimed_from claimed s.claims m.used) + times q (claimed_from claimed g.stand.claims d.used) =
-            λ q. times_claimed claimed s.claims m.used d.used q ∙ ap (λ (c : ℕ). times q (claimed_from claimed s.claims m.used) + times q (claimed_from claimed c d.used)) (sym m.claims) in
-            record {
-              used = m.used + d.used;
-              claims = omega (arith, d.claims, m.claims);
-              few = d.few;
-              sound = d.sound;
-              new = d.new;
-              order = λ xs ys a low high. subst (λ (l : List Mark). Ascend (xs ++ (l ++ ys))) (sym d.marks) (m.order xs ys a low high);
-              rows = λ cs ds mm a no_cs no_ds. subst (λ (l : Rs). ByKeys cols (cs ++ (l ++ ds)) (finite.insert mm (key_of cols row) row)) (sym d.rows) (m.rows cs ds mm a no_cs no_ds);
-              pages = λ q. omega (arith, d.pages q, m.pages q, sum q);
-              others = λ q none claims. d.others q (omega (arith, none)) (omega (arith, claims, sum q)) ∙ m.others q (omega (arith, none)) (omega (arith, claims, sum q));
-            }
-
-        by : (more : Es) → in_key_order (put_entries more (entries_in (s.sheets p))) ≡ all → Each (IsEntry K) more → length more ≤ 2 → (rise_with claimed p (suc n) (entries_in (s.sheets p)) more (record { stand = g.stand; more = more })).stand.claims ≤ s.claims + r
-            → IsGrown P K cols claimed row (suc n) s least p (rise_with claimed p (suc n) (entries_in (s.sheets p)) more (record { stand = g.stand; more = more }))
-        by [] are fresh fewer b = same are b
-        by (e ∷ more) are fresh fewer b = laid (e ∷ more) are fresh fewer b
+        by : (more : Es) → more ≡ g.more → (rise_with claimed p (suc n) (entries_in (s.sheets p)) more (record { stand = g.stand; more = more })).stand.claims ≤ s.claims + r
+            → IsGrown P K R cols claimed row (suc n) s least p (rise_with claimed p (suc n) (entries_in (s.sheets p)) more (record { stand = g.stand; more = more }))
+        by [] are b = stays_as_it_was g x (sym are) room
+        by (e ∷ more) are b = laid e more are b
 
     -- THE CHILD FOR THE KEY
 
     -- laying gives no claimed page back
-    rise_claims : (g : Grown) → g.stand.claims ≤ (rise claimed p (suc n) (entries_in (s.sheets p)) g).stand.claims
+    pub rise_claims : (g : Grown) → g.stand.claims ≤ (rise claimed p (suc n) (entries_in (s.sheets p)) g).stand.claims
     rise_claims g = by g.more
       where
         by : (more : Es) → g.stand.claims ≤ (rise_with claimed p (suc n) (entries_in (s.sheets p)) more (record { stand = g.stand; more = more })).stand.claims
         by [] = omega arith
-        by (e ∷ more) = inner_claims cols P K rules claimed n least p g.stand [] (put_entries (e ∷ more) (entries_in (s.sheets p)))
+        by (e ∷ more) = inner_claims cols P K R rules claimed n least p g.stand [] (put_entries (e ∷ more) (entries_in (s.sheets p)))
 
     module _ (before : Es) (ch : Entry) (after : Es) (are : entries_at s.sheets p ≡ before ++ ch ∷ after) (low : (before ≡ []) ⊎ (is_upto ch.least (Some (key_of cols row)) ≡ true)) (high : IsBehind (key_of cols row) after) where
       old_part : ArePart least (before ++ ch ∷ after)
@@ -275,13 +294,13 @@ module _ (cols : List Column) (P : List Value → Type 0) (K : Key → Type 0) (
       around_p : (q : PageId) → times q (Below s.sheets n (entries_at s.sheets p)) ≡ times q (Below s.sheets n before) + (times q (pages_of s.sheets n ch.page) + times q (Below s.sheets n after))
       around_p q = ap (λ (l : Es). times q (Below s.sheets n l)) are ∙ times_around q s.sheets n before ch after
 
-      ch_free : IsFree P K claimed s.claims r (pages_of s.sheets n ch.page)
+      ch_free : IsFree P K R claimed s.claims r (pages_of s.sheets n ch.page)
       ch_free = record { once = λ q. omega (arith, free.once q, around_p q); targets = free.targets }
 
-      ch_sound : IsSound P K s.sheets n ch.least ch.page
-      ch_sound = (each-right (λ e. IsSound P K s.sheets n e.least e.page) before (ch ∷ after) (subst (Each (λ e. IsSound P K s.sheets n e.least e.page)) are sound.5)).0
+      ch_sound : IsSound P K R s.sheets n ch.least ch.page
+      ch_sound = (each-right (λ e. IsSound P K R s.sheets n e.least e.page) before (ch ∷ after) (subst (Each (λ e. IsSound P K R s.sheets n e.least e.page)) are sound.5)).0
 
-      module _ (g : Grown) (G : IsGrown P K cols claimed row n s ch.least ch.page g) (budget : g.stand.claims ≤ s.claims + r) where
+      module _ (g : Grown) (G : IsGrown P K R cols claimed row n s ch.least ch.page g) (budget : g.stand.claims ≤ s.claims + r) where
         few : G.used ≤ r
         few = omega (arith, budget, G.claims)
 
@@ -292,13 +311,13 @@ module _ (cols : List Column) (P : List Value → Type 0) (K : Key → Type 0) (
         agree_after q there = sym (G.others q (omega (arith, there, free.once q, around_p q)) (omega (arith, there, free.once q, around_p q, claimed_fewer claimed s.claims G.used r q few)))
 
         old_each : Each (IsEntry K) (before ++ ch ∷ after)
-        old_each = subst (Each (IsEntry K)) are sound.4
+        old_each = subst (Each (IsEntry K)) are (sound.4 looked)
 
-        old_sound : Each (λ e. IsSound P K s.sheets n e.least e.page) (before ++ ch ∷ after)
-        old_sound = subst (Each (λ e. IsSound P K s.sheets n e.least e.page)) are sound.5
+        old_sound : Each (λ e. IsSound P K R s.sheets n e.least e.page) (before ++ ch ∷ after)
+        old_sound = subst (Each (λ e. IsSound P K R s.sheets n e.least e.page)) are sound.5
 
         new_least : Each HasLeast g.more
-        new_least = each-map (λ e. IsEntry K e × HasLeast e × IsSound P K g.stand.sheets n e.least e.page) HasLeast g.more (λ e h. h.1) G.new
+        new_least = each-map (λ e. IsEntry K e × HasLeast e × IsSound P K R g.stand.sheets n e.least e.page) HasLeast g.more (λ e h. h.1) G.new
 
         marks_after : flat_map (marks_of (inside cols s.sheets n)) after ≡ flat_map (marks_of (inside cols g.stand.sheets n)) after
         marks_after = marks-same cols s.sheets g.stand.sheets n after agree_after (inside-same cols s.sheets g.stand.sheets n)
@@ -375,14 +394,14 @@ module _ (cols : List Column) (P : List Value → Type 0) (K : Key → Type 0) (
           used = G.used;
           claims = G.claims;
           each = each_more (IsEntry K) before ch g.more after (each-left (IsEntry K) before (ch ∷ after) old_each) (each-right (IsEntry K) before (ch ∷ after) old_each).0
-              (each-map (λ e. IsEntry K e × HasLeast e × IsSound P K g.stand.sheets n e.least e.page) (IsEntry K) g.more (λ e h. h.0) G.new) (each-right (IsEntry K) before (ch ∷ after) old_each).1;
+              (each-map (λ e. IsEntry K e × HasLeast e × IsSound P K R g.stand.sheets n e.least e.page) (IsEntry K) g.more (λ e h. h.0) G.new) (each-right (IsEntry K) before (ch ∷ after) old_each).1;
           part = part_more least before ch g.more after new_least old_part;
           some = some_more n before ch (g.more ++ after);
-          sound = each_more (λ e. IsSound P K g.stand.sheets n e.least e.page) before ch g.more after
-              (sounds-same P K s.sheets g.stand.sheets n before agree_before (each-left (λ e. IsSound P K s.sheets n e.least e.page) before (ch ∷ after) old_sound))
+          sound = each_more (λ e. IsSound P K R g.stand.sheets n e.least e.page) before ch g.more after
+              (sounds-same P K R s.sheets g.stand.sheets n before agree_before (each-left (λ e. IsSound P K R s.sheets n e.least e.page) before (ch ∷ after) old_sound))
               G.sound
-              (each-map (λ e. IsEntry K e × HasLeast e × IsSound P K g.stand.sheets n e.least e.page) (λ e. IsSound P K g.stand.sheets n e.least e.page) g.more (λ e h. h.2) G.new)
-              (sounds-same P K s.sheets g.stand.sheets n after agree_after (each-right (λ e. IsSound P K s.sheets n e.least e.page) before (ch ∷ after) old_sound).1);
+              (each-map (λ e. IsEntry K e × HasLeast e × IsSound P K R g.stand.sheets n e.least e.page) (λ e. IsSound P K R g.stand.sheets n e.least e.page) g.more (λ e h. h.2) G.new)
+              (sounds-same P K R s.sheets g.stand.sheets n after agree_after (each-right (λ e. IsSound P K R s.sheets n e.least e.page) before (ch ∷ after) old_sound).1);
           order = mid_order;
           rows = mid_rows;
           pages = λ q.
@@ -394,8 +413,8 @@ module _ (cols : List Column) (P : List Value → Type 0) (K : Key → Type 0) (
           others = λ q none claims. G.others q (omega (arith, none, around_p q)) claims;
         }
 
-        child_grown : (rise claimed p (suc n) (entries_in (s.sheets p)) g).stand.claims ≤ s.claims + r → IsGrown P K cols claimed row (suc n) s least p (rise claimed p (suc n) (entries_in (s.sheets p)) g)
-        child_grown budget2 =
+        risen_child : IsRisen n s least p g
+        risen_child =
             let whole : Ascend (own least ++ (inside cols s.sheets (suc n) p ++ [])) = subst (λ (l : List Mark). Ascend (own least ++ l)) (sym (append-nil (inside cols s.sheets (suc n) p))) asc in
             let after_all : Ascend (own least ++ flat_map (marks_of (inside cols g.stand.sheets n)) (headless (before ++ ch ∷ (g.more ++ after)))) =
             subst (λ (l : List Mark). Ascend (own least ++ l)) (append-nil (flat_map (marks_of (inside cols g.stand.sheets n)) (headless (before ++ ch ∷ (g.more ++ after))))) (mid_order (own least) [] whole upto tt) in
@@ -403,13 +422,19 @@ module _ (cols : List Column) (P : List Value → Type 0) (K : Key → Type 0) (
             let assoc : (zs : Es) → (before ++ ch ∷ []) ++ zs ≡ before ++ ch ∷ zs = λ zs. append_assoc before (ch ∷ []) zs in
             let put : in_key_order (put_entries g.more (entries_in (s.sheets p))) ≡ (before ++ ch ∷ []) ++ (g.more ++ after) =
             put_between (entries_in (s.sheets p)) (before ++ ch ∷ []) g.more after (are ∙ sym (assoc after)) (subst Rises (sym (assoc (g.more ++ after))) rises) in
-            finish g (before ++ ch ∷ (g.more ++ after)) mid_of (put ∙ assoc (g.more ++ after)) rises
-            (each-map (λ e. IsEntry K e × HasLeast e × IsSound P K g.stand.sheets n e.least e.page) (IsEntry K) g.more (λ e h. h.0) G.new) G.few budget2
+            record {
+              all = before ++ ch ∷ (g.more ++ after);
+              mid = mid_of;
+              are = put ∙ assoc (g.more ++ after);
+              rises = rises;
+              fresh = each-map (λ e. IsEntry K e × HasLeast e × IsSound P K R g.stand.sheets n e.least e.page) (IsEntry K) g.more (λ e h. h.0) G.new;
+              few = G.few;
+            }
 
   -- THE FIRST LEAF
 
-  module _ (s : Stand) (least : Option Key) (p : PageId) (r : ℕ) (sound : IsSound P K s.sheets 1 least p) (asc : Ascend (own least ++ inside cols s.sheets 1 p)) (upto : Each (λ m. Precedes m (Row (key_of cols row))) (own least))
-      (free : IsFree P K claimed s.claims r (pages_of s.sheets 1 p)) (none : entries_at s.sheets p ≡ []) where
+  module _ (s : Stand) (least : Option Key) (p : PageId) (r : ℕ) (sound : IsSound P K R s.sheets 1 least p) (asc : Ascend (own least ++ inside cols s.sheets 1 p)) (upto : Each (λ m. Precedes m (Row (key_of cols row))) (own least))
+      (free : IsFree P K R claimed s.claims r (pages_of s.sheets 1 p)) (looked : R p ≡ true) (none : entries_at s.sheets p ≡ []) where
     abbrev one : Entry
     one = record { least = None; page = claimed s.claims }
 
@@ -433,7 +458,7 @@ module _ (cols : List Column) (P : List Value → Type 0) (K : Key → Type 0) (
           each = (record { target = free.targets s.claims (omega arith) (omega (arith, budget)); least = tt }, tt);
           part = (inl refl, tt);
           some = tt;
-          sound = (subst (IsLeaf P) (sym at_leaf) (leaf_of cols P K rules claimed row good (row ∷ []) (good, tt) fit), tt);
+          sound = (subst (IsLeaf P (R (claimed s.claims))) (sym at_leaf) (leaf_of cols P K R rules claimed row good (R (claimed s.claims)) (row ∷ []) (good, tt) fit), tt);
           order = λ xs ys a low high. subst (λ (l : List Mark). Ascend (xs ++ ((l ++ []) ++ ys))) (sym marks_at) (ascend-put (key_of cols row) xs ys (subst (λ (l : List Mark). Ascend (xs ++ (l ++ ys))) empty_marks a) low high);
           rows = λ cs ds m a no_cs no_ds.
               let old : ByKeys cols (cs ++ ds) m = subst (λ (l : Rs). ByKeys cols (cs ++ (l ++ ds)) m) empty_rows a in
@@ -445,40 +470,54 @@ module _ (cols : List Column) (P : List Value → Type 0) (K : Key → Type 0) (
         differ : (q : PageId) → times q (claimed s.claims ∷ []) ≡ 0 → claimed s.claims ≢ q
         differ q none e = let there : 1 ≤ times q (claimed s.claims ∷ []) = subst (λ (x : PageId). 1 ≤ times q (x ∷ [])) (sym e) (times_here q []) in absurd (omega (arith, none, there))
 
-    first_grown : (rise claimed p 1 (entries_in (s.sheets p)) leafed).stand.claims ≤ s.claims + r → IsGrown P K cols claimed row 1 s least p (rise claimed p 1 (entries_in (s.sheets p)) leafed)
-    first_grown budget =
-        let b : leafed.stand.claims ≤ s.claims + r = omega (arith, budget, rise_claims 0 s least p r sound asc upto free leafed) in
-        finish 0 s least p r sound asc upto free leafed (one ∷ []) (mid_first b) (put_between (entries_in (s.sheets p)) [] (one ∷ []) [] none (tt, tt)) (tt, tt) (mid_first b).each (omega arith) budget
+    risen_first : leafed.stand.claims ≤ s.claims + r → IsRisen 0 s least p leafed
+    risen_first b = record {
+      all = one ∷ [];
+      mid = mid_first b;
+      are = put_between (entries_in (s.sheets p)) [] (one ∷ []) [] none (tt, tt);
+      rises = (tt, tt);
+      fresh = (mid_first b).each;
+      few = omega arith;
+    }
 
-  -- THE INDUCTION ON THE LEVEL
+  -- BELOW THE CHILD, OR INTO A FIRST LEAF
 
-  no_child : (m : ℕ) (s : Stand) (least : Option Key) (p : PageId) → IsSound P K s.sheets (suc (suc m)) least p → entries_at s.sheets p ≡ [] → ⊥
+  no_child : (m : ℕ) (s : Stand) (least : Option Key) (p : PageId) → IsSound P K R s.sheets (suc (suc m)) least p → entries_at s.sheets p ≡ [] → ⊥
   no_child m s least p sound none = subst (HasSome (suc m)) none sound.2
 
-  pub grows : (n : ℕ) → Grows n
-  grows zero s least p r sound asc upto free budget = leaf_grown cols P K rules claimed row good s least p r sound (ascend-right (own least) (inside cols s.sheets 0 p) asc) free budget
-  grows (suc n) s least p r sound asc upto free budget = by (in_key_order (entries_in (s.sheets p))) refl budget (grows n)
-    where
-      empty : (m : ℕ) → m ≡ n → entries_at s.sheets p ≡ [] → (rise claimed p (suc n) (entries_in (s.sheets p)) (hand_out leaf_of_rows (λ rows. None) claimed ((row ∷ []) ∷ []) s)).stand.claims ≤ s.claims + r
-          → IsGrown P K cols claimed row (suc n) s least p (rise claimed p (suc n) (entries_in (s.sheets p)) (hand_out leaf_of_rows (λ rows. None) claimed ((row ∷ []) ∷ []) s))
-      empty zero e none b =
-          subst (λ (j : ℕ). IsSound P K s.sheets (suc j) least p → Ascend (own least ++ inside cols s.sheets (suc j) p) → IsFree P K claimed s.claims r (pages_of s.sheets (suc j) p)
-          → (rise claimed p (suc j) (entries_in (s.sheets p)) (hand_out leaf_of_rows (λ rows. None) claimed ((row ∷ []) ∷ []) s)).stand.claims ≤ s.claims + r
-          → IsGrown P K cols claimed row (suc j) s least p (rise claimed p (suc j) (entries_in (s.sheets p)) (hand_out leaf_of_rows (λ rows. None) claimed ((row ∷ []) ∷ []) s))) e
-          (λ so ac fr bu. first_grown s least p r so ac upto fr none bu) sound asc free b
-      empty (suc m) e none b = absurd (no_child m s least p (subst (λ (j : ℕ). IsSound P K s.sheets (suc j) least p) (sym e) sound) none)
+  abbrev pub Throughed : ℕ → Stand → PageId → Es → Grown
+  Throughed n s p l = through claimed row (put_below cols claimed row n) (entry_for (key_of cols row) l) s
 
-      by : (l : Es) → in_key_order (entries_in (s.sheets p)) ≡ l → (rise claimed p (suc n) (entries_in (s.sheets p)) (through claimed row (put_below cols claimed row n) (entry_for (key_of cols row) l) s)).stand.claims ≤ s.claims + r → Grows n
-          → IsGrown P K cols claimed row (suc n) s least p (rise claimed p (suc n) (entries_in (s.sheets p)) (through claimed row (put_below cols claimed row n) (entry_for (key_of cols row) l) s))
-      by [] none b rec = empty n refl none b
-      by (e ∷ es) is b rec =
+  pub risen : (n : ℕ) → Grows n → (s : Stand) (least : Option Key) (p : PageId) (r : ℕ) → IsSound P K R s.sheets (suc n) least p → Ascend (own least ++ inside cols s.sheets (suc n) p) → Each (λ m. Precedes m (Row (key_of cols row))) (own least)
+      → IsFree P K R claimed s.claims r (pages_of s.sheets (suc n) p) → OnPath R s.sheets (key_of cols row) (suc n) p → (Throughed n s p (in_key_order (entries_in (s.sheets p)))).stand.claims ≤ s.claims + r
+      → IsRisen n s least p (Throughed n s p (in_key_order (entries_in (s.sheets p))))
+  risen n rec s least p r sound asc upto free path budget = by (in_key_order (entries_in (s.sheets p))) refl path.1 budget
+    where
+      empty : (m : ℕ) → m ≡ n → entries_at s.sheets p ≡ [] → (hand_out leaf_of_rows (λ rows. None) claimed ((row ∷ []) ∷ []) s).stand.claims ≤ s.claims + r → IsRisen n s least p (hand_out leaf_of_rows (λ rows. None) claimed ((row ∷ []) ∷ []) s)
+      empty zero e none b =
+          subst (λ (j : ℕ). IsSound P K R s.sheets (suc j) least p → Ascend (own least ++ inside cols s.sheets (suc j) p) → IsFree P K R claimed s.claims r (pages_of s.sheets (suc j) p)
+          → IsRisen j s least p (hand_out leaf_of_rows (λ rows. None) claimed ((row ∷ []) ∷ []) s)) e
+          (λ so ac fr. risen_first s least p r so ac upto fr path.0 none b) sound asc free
+      empty (suc m) e none b = absurd (no_child m s least p (subst (λ (j : ℕ). IsSound P K R s.sheets (suc j) least p) (sym e) sound) none)
+
+      by : (l : Es) → in_key_order (entries_in (s.sheets p)) ≡ l → Via (OnPath R s.sheets (key_of cols row) n) (entry_for (key_of cols row) l) → (Throughed n s p l).stand.claims ≤ s.claims + r → IsRisen n s least p (Throughed n s p l)
+      by [] none via b = empty n refl none b
+      by (e ∷ es) is via b =
           let ch : Entry = chosen_entry (key_of cols row) e es in
           let o : IsChosen (key_of cols row) (e ∷ es) (chosen_entry (key_of cols row) e es) = chosen_is (key_of cols row) e es in
           let are : entries_at s.sheets p ≡ o.before ++ chosen_entry (key_of cols row) e es ∷ o.after = is ∙ o.are in
           let g : Grown = put_below cols claimed row n (chosen_entry (key_of cols row) e es).page s in
-          let room : g.stand.claims ≤ s.claims + r = omega (arith, b, rise_claims n s least p r sound asc upto free g) in
-          let sd : AreSides (key_of cols row) (inside cols s.sheets n) least o.before (chosen_entry (key_of cols row) e es) o.after = side n s least p r sound asc upto free o.before (chosen_entry (key_of cols row) e es) o.after are o.low o.high in
-          let G : IsGrown P K cols claimed row n s ch.least ch.page (put_below cols claimed row n ch.page s) =
-          rec s ch.least ch.page r (ch_sound n s least p r sound asc upto free o.before (chosen_entry (key_of cols row) e es) o.after are o.low o.high) sd.mid sd.upto
-          (ch_free n s least p r sound asc upto free o.before (chosen_entry (key_of cols row) e es) o.after are o.low o.high) room in
-          child_grown n s least p r sound asc upto free o.before (chosen_entry (key_of cols row) e es) o.after are o.low o.high g G room b
+          let sd : AreSides (key_of cols row) (inside cols s.sheets n) least o.before (chosen_entry (key_of cols row) e es) o.after = side n s least p r sound asc upto free path.0 o.before (chosen_entry (key_of cols row) e es) o.after are o.low o.high in
+          let G : IsGrown P K R cols claimed row n s ch.least ch.page (put_below cols claimed row n ch.page s) =
+          rec s ch.least ch.page r (ch_sound n s least p r sound asc upto free path.0 o.before (chosen_entry (key_of cols row) e es) o.after are o.low o.high) sd.mid sd.upto
+          (ch_free n s least p r sound asc upto free path.0 o.before (chosen_entry (key_of cols row) e es) o.after are o.low o.high) via b in
+          risen_child n s least p r sound asc upto free path.0 o.before (chosen_entry (key_of cols row) e es) o.after are o.low o.high g G b
+
+  -- THE INDUCTION ON THE LEVEL
+
+  pub grows : (n : ℕ) → Grows n
+  grows zero s least p r sound asc upto free path budget = leaf_grown cols P K R rules claimed row good s least p r sound (ascend-right (own least) (inside cols s.sheets 0 p) asc) path free budget
+  grows (suc n) s least p r sound asc upto free path budget =
+      let g : Grown = Throughed n s p (in_key_order (entries_in (s.sheets p))) in
+      let room : g.stand.claims ≤ s.claims + r = omega (arith, budget, rise_claims n s least p r sound asc upto free path.0 g) in
+      finish n s least p r sound asc upto free path.0 g (risen n (grows n) s least p r sound asc upto free path room) room budget

@@ -9,11 +9,7 @@ use Rattle.tree_laws.specs.Order.{own}
 use Rattle.tree_laws.specs.Puts.{rows_in_order, in_key_order}
 use Rattle.tree_laws.specs.Sheets.{Entry, Sheet, leaf_in, entries_in}
 use Rattle.tree_laws.specs.Trees.{entries_at, headless, row_mark, marks_of, inside, rows_of, pages_of}
-
--- how often a page stands among some
-abbrev pub times : PageId → List PageId → ℕ
-times q [] = 0
-times q (p ∷ ps) = cond (is_page p q) 1 0 + times q ps
+pub use Rattle.tree_laws.specs.Trees.{times}
 
 pub times-append : (q : PageId) (ps qs : List PageId) → times q (ps ++ qs) ≡ times q ps + times q qs
 times-append q [] qs = omega arith

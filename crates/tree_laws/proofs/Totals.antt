@@ -47,7 +47,7 @@ total_added row (None ∷ cs) = refl
 total_added row (Some r ∷ cs) = omega (arith, total_added row cs)
 
 -- a key among keys that ascend differs from the others
-ascend_placed : (k : Key) (ks : List Key) → Ascend (map Row (placed_key k ks)) → Each (λ l. l ≢ k) ks × Ascend (map Row ks)
+pub ascend_placed : (k : Key) (ks : List Key) → Ascend (map Row (placed_key k ks)) → Each (λ l. l ≢ k) ks × Ascend (map Row ks)
 ascend_placed k [] a = (tt, tt)
 ascend_placed k (l ∷ ls) a = by (is_le (key_cmp k l)) a (ascend_placed k ls)
   where

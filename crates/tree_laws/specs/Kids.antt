@@ -1,7 +1,8 @@
 -- A tree: a page of a level names its children, each with the least key that it may hold; leaves stand under level 1.
-use Rattle.std.specs.Prelude.{Bool, true, false, ◌==◌, Option, None, Some, Result, Ok, Err, if◌then◌else◌, ℕ, zero, suc, ◌+◌, ◌-◌, List, [], ◌∷◌, length, take, drop, map, slice_index_or}
+use Rattle.std.specs.Prelude.{Bool, true, false, nat_le, ◌==◌, Option, None, Some, Result, Ok, Err, if◌then◌else◌, ℕ, zero, suc, ◌+◌, ◌-◌, List, [], ◌∷◌, length, take, drop, map, slice_index_or}
 use Rattle.std.specs.Ordering.{is_le}
 use Rattle.page_base.specs.declared.column.Column.{Column}
+use Rattle.page_base.specs.declared.limits.TheConstants.{MAX_KEY_BYTES}
 use Rattle.page_base.specs.declared.numbers.PageId.{PageId}
 use Rattle.page_base.specs.Order.{key_cmp}
 use Rattle.byte_fields.specs.Numbers.{number_in}
@@ -28,10 +29,10 @@ abbrev pub sorted : List Child → List Child
 sorted [] = []
 sorted (c ∷ cs) = placed c (sorted cs)
 
--- the least key behind an address; no bytes are none
+-- the least key behind an address, within the limit of keys; no bytes are none
 abbrev pub least_at : List Column → List ℕ → Option (Option Key)
 least_at keys [] = Some None
-least_at keys (b ∷ bs) = some_key (key_at keys (b ∷ bs))
+least_at keys (b ∷ bs) = if nat_le (length (b ∷ bs)) MAX_KEY_BYTES then some_key (key_at keys (b ∷ bs)) else None
   where
     some_key : Option Key → Option (Option Key)
     some_key None = None

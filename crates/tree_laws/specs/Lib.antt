@@ -7,3 +7,5 @@ pub mod Sheets
 pub mod Laying
 pub mod Puts
 pub mod Trees
+pub mod Typed
+pub mod Reads

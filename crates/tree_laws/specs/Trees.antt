@@ -1,9 +1,10 @@
 -- A tree of typed pages: what stands inside a page of a level, its rows, and the pages below it.
-use Rattle.std.specs.Prelude.{None, ℕ, zero, suc, List, [], ◌∷◌, ◌++◌, map}
+use Rattle.std.specs.Prelude.{if◌then◌else◌, None, ℕ, ◌+◌, zero, suc, List, [], ◌∷◌, ◌++◌, map}
 use Rattle.std.specs.List.{flat_map}
 use Rattle.page_base.specs.declared.column.Column.{Column}
 use Rattle.page_base.specs.declared.numbers.PageId.{PageId}
 use Rattle.page_base.specs.declared.value.Value.{Value}
+use Rattle.page_base.specs.Pages.{is_page}
 use Rattle.plain_model.specs.Tables.{key_of}
 use Rattle.tree_laws.specs.Order.{Mark, own}
 use Rattle.tree_laws.specs.Order.Mark.{Row}
@@ -41,3 +42,13 @@ rows_of cols s (suc n) p = flat_map (λ e. rows_of cols s n e.page) (entries_at 
 abbrev pub pages_of : (PageId → Sheet) → ℕ → PageId → List PageId
 pages_of s zero p = p ∷ []
 pages_of s (suc n) p = p ∷ flat_map (λ e. pages_of s n e.page) (entries_at s p)
+
+-- how often a page stands among some
+abbrev pub times : PageId → List PageId → ℕ
+times q [] = 0
+times q (p ∷ ps) = (if is_page p q then 1 else 0) + times q ps
+
+-- each of some things
+abbrev pub Each : {X : Type 0} → (X → Type 0) → List X → Type 0
+Each P [] = Unit {0}
+Each P (x ∷ xs) = P x × Each P xs

@@ -1,19 +1,24 @@
 //! What trees of pages keep, as functions whose contracts say it.
 
-ghost use Rattle.std.specs.Prelude.{◌≡◌, ◌≤◌, ◌+◌, ◌*◌, ◌++◌, [], true, ℕ, Bool, List, Option, Some, All, length};
+ghost use Rattle.std.specs.Prelude.{◌≡◌, ◌≤◌, ◌+◌, ◌*◌, ◌++◌, [], true, false, ℕ, Bool, List, Option, Some, All, length};
 ghost use Rattle.std.specs.FinMap as finite;
 ghost use Rattle.page_base.specs.declared.column.Column.{Column};
 ghost use Rattle.page_base.specs.declared.numbers.PageId.{PageId};
+ghost use Rattle.page_base.specs.declared.value.Value.{Value};
 ghost use Rattle.page_fmt.specs.Seen.{SlotsAt};
 ghost use Rattle.plain_model.specs.Tables.{Rows};
 ghost use Rattle.table_walk.specs.declared.visit.Visit.{Visit};
-ghost use Rattle.table_walk.specs.Tables.{Gathers, cells};
+ghost use Rattle.table_walk.specs.Plans.{AreFree, also, cut_all, put_all};
+ghost use Rattle.table_walk.specs.Tables.{Gathers, MayPut, cells};
 ghost use Rattle.table_walk.specs.Walk.{IsWalk};
 ghost use Rattle.tree_laws.specs.Keys.{Key};
 ghost use Rattle.tree_laws.specs.Kids.{tree_kids, first};
 ghost use Rattle.tree_laws.specs.LookUps.{IsOnePerLevel};
 ghost use Rattle.tree_laws.specs.Order.{RowsAt};
 ghost use Rattle.tree_laws.specs.Parts.{fill, joined, total, AreSmall, Fit};
+ghost use Rattle.tree_laws.specs.Puts.{placed};
+ghost use Rattle.tree_laws.specs.Reads.{AreRead, HasKey, IsTree};
+ghost use Rattle.tree_laws.specs.Sheets.{Sheet};
 
 /// A look-up of one key comes to at most one page of each level, the leaf included.
 pub fn a_look_up_has_one_page_a_level()
@@ -28,6 +33,22 @@ pub fn a_look_up_stays_in_its_tree()
 /// Over pages that are a table, the row of a key stands on the pages of its look-up, or there is none.
 pub fn a_look_up_finds()
     ensures { (cols : List Column) (at : SlotsAt) (owns : PageId → Bool) (root : PageId) (rows : Rows) (key : Key) (done : List Visit) → RowsAt cols at owns root rows → IsWalk (tree_kids cols (Some key)) at (first root) done [] → (found : Rows) × Gathers cols (cells at done) found × (finite.get found key ≡ finite.get rows key) }
+{}
+
+/// The pages of a table are read as typed pages, and these are a tree of its rows.
+pub fn a_table_is_a_tree()
+    ensures { (cols : List Column) (at : SlotsAt) (owns : PageId → Bool) (root : PageId) (rows : Rows) → RowsAt cols at owns root rows → (sheets : PageId → Sheet) × AreRead cols at owns sheets × IsTree cols (λ p. false) sheets root owns rows }
+{}
+
+/// Pages that are read as a tree of typed pages are a table of its rows.
+pub fn a_tree_is_a_table()
+    ensures { (cols : List Column) (looked : PageId → Bool) (sheets : PageId → Sheet) (at : SlotsAt) (owns : PageId → Bool) (root : PageId) (rows : Rows) → IsTree cols looked sheets root owns rows → AreRead cols at owns sheets → RowsAt cols at owns root rows }
+{}
+
+/// Keys that are cut from a tree of typed pages, and rows that are then put into it, leave one tree: of the rows without those
+/// that are cut and with those that are put, over its pages and those that were claimed, each with room.
+pub fn a_tree_stays_one()
+    ensures { (cols : List Column) (claimed : ℕ → PageId) (n : ℕ) (at : SlotsAt) (owns : PageId → Bool) (root : PageId) (sheets : PageId → Sheet) (rows : Rows) (cut : List Key) (put : List (List Value)) → HasKey cols → AreFree claimed n at owns → All (MayPut cols) put → IsTree cols (λ p. true) sheets root owns rows → (placed cols claimed root cut put sheets).claims ≤ n → IsTree cols (λ p. true) (placed cols claimed root cut put sheets).sheets root (also owns claimed (placed cols claimed root cut put sheets).claims) (put_all cols put (cut_all cut rows)) }
 {}
 
 /// Things laid in parts stand in them as they were, each part has room, and what overflows by little has few parts.

@@ -1,0 +1,5 @@
+pub mod WithinLemmas
+pub mod StandLemmas
+pub mod JoinLemmas
+pub mod AheadLemmas
+pub mod ApartLemmas

@@ -1,0 +1,14 @@
+-- A pin and its end.
+use Rattle.std.proofs.Common.{ℕ, ap, ◌∙◌}
+use Rattle.page_base.specs.declared.numbers.PageId.{PageId}
+use Rattle.buf_pool.specs.Pool.{without_pin}
+use Rattle.snap_pages.proofs.PinLemmas.{pin_unpin}
+use Rattle.snap_pages.specs.Shown.{pins}
+use Rattle.page_times.proofs.pages.visit.Goals as goal
+
+pub returns-in_err-fetch_source-clause-free : goal.returns-in_err-fetch_source-clause-free
+returns-in_err-fetch_source-clause-free c = λ q. (λ i. c.in_err-fetch_source.ensures.stays.pinned i q) ∙ c.requires.free q
+
+pub returns-clause-free : goal.returns-clause-free
+returns-clause-free c = λ q.
+    (λ i. (c.unpin.ensures.pins ∙ ap (λ (f : PageId → ℕ). without_pin f c.args.p) c.in_ok-fetch_source.ensures.once.pinned ∙ pin_unpin (pins c.args.pages.now) c.args.p) i q) ∙ c.requires.free q

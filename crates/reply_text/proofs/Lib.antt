@@ -1,0 +1,16 @@
+mod PieceLemmas
+mod NumberLemmas
+mod ValueLemmas
+mod Options
+mod NumberLaws
+mod LineLemmas
+mod PieceLaws
+mod ValueLaws
+mod PlainLaws
+mod WordLaws
+mod HeadingLaws
+mod TextLaws
+mod LineLaws
+mod BookLaws
+mod Reading
+mod Refusals

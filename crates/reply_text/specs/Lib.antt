@@ -1,0 +1,10 @@
+pub mod Told
+pub mod Numbers
+pub mod Pieces
+pub mod Values
+pub mod Headings
+pub mod Lines
+pub mod Left
+pub mod Steps
+pub mod Books
+pub mod Laws

@@ -1,0 +1,5 @@
+pub mod ChangeSeat
+pub mod Writing
+pub mod ChangeWhole
+pub mod ChangeTold
+pub mod ChangeKeeps

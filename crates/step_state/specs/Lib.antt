@@ -1,0 +1,10 @@
+pub mod State
+pub mod Holding
+pub mod Snapshots
+pub mod Posed
+pub mod Own
+pub mod Whole
+pub mod Plans
+pub mod Told
+pub mod Safe
+pub mod Steps

@@ -1,0 +1,4 @@
+pub mod Courses
+pub mod Coming
+pub mod Sittings
+pub mod Seats
