@@ -13,7 +13,7 @@ use Rattle.table_walk.specs.declared.plan.Spot.TheVariants.{Old, New}
 use Rattle.table_walk.specs.Plans.{place}
 use Rattle.page_tables.specs.Owners.{is_there}
 use Rattle.step_words.specs.declared.point.Point.{Point}
-use Rattle.step_words.specs.declared.point.Point.TheVariants.{Start, Latch as Latching, Change, Commit, Say}
+use Rattle.step_words.specs.declared.point.Point.TheVariants.{Start, Latch as Latching, Change, Claim, Undo, Commit, Say}
 use Rattle.step_words.specs.declared.stage.DbKind.TheVariants.{Source}
 use Rattle.step_words.specs.declared.stage.Stage.{Stage}
 use Rattle.step_words.specs.declared.stage.Stage.TheVariants.{Claim as Claiming, Edit as Editing, End}
@@ -113,6 +113,7 @@ module _ (files : List ℕ) (x : Seated) (latch : Option Latch) (held : ℕ → 
     unasked = λ f. absurd (let wrong : true ≡ false = sym (past_all_after drafts) ∙ f in cc);
     unread = λ f. absurd (let wrong : true ≡ false = sym (past_table_after drafts) ∙ f in cc);
     fresh = λ f. absurd (let wrong : true ≡ false = sym (planned_after drafts) ∙ f in cc);
+    numbers = on.numbers;
     taken = on.taken;
     claimed = λ t. all_taken;
     apart = on.apart;
@@ -157,6 +158,9 @@ module _ (files : List ℕ) (x : Seated) (latch : Option Latch) (held : ℕ → 
     started = λ e. absurd (no_start e);
     without = λ t. absurd (let wrong : true ≡ false = sym t ∙ has_work in cc);
     claims = λ d e stage. absurd (no_claim drafts (ap (λ (g : Course). g.stage) (some_same (course_after c drafts) d e) ∙ stage));
+    claiming = λ owner e. absurd (by_point (λ t. t ≡ Claim owner → ⊥) x.sitting c drafts (λ q. cc) (λ q. cc) (λ d later is q. cc) e);
+    undoes = λ all e. absurd (by_point (λ t. t ≡ Undo all → ⊥) x.sitting c drafts (λ q. cc) (λ q. cc) (λ d later is q. cc) e);
+    says = λ e none. cc;
     makes = λ f. a.posed.makes (ap is_making at);
     unlatched = λ some. absurd (some unmarked);
   }
@@ -181,6 +185,6 @@ module _ (files : List ℕ) (x : Seated) (latch : Option Latch) (held : ℕ → 
     rooted = a.rooted;
     nowhere = λ none. absurd (some none);
     holding = locks_of;
-    editing = λ q e. absurd (no_change q e);
-    committing = λ e d is. ap (λ (g : Course). g.at) (sym (some_same (course_after c drafts) d is)) ∙ a.editing p at c has;
+    writing = λ d is t. ap (λ (g : Course). g.at) (sym (some_same (course_after c drafts) d is)) ∙ a.writing c has (inr editing);
+    committing = λ e d is. ap (λ (g : Course). g.at) (sym (some_same (course_after c drafts) d is)) ∙ a.writing c has (inr editing);
   }

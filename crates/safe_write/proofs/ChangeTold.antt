@@ -1,61 +1,49 @@
 -- What a change leaves where the files tell.
 use Rattle.std.proofs.Common.{◌≡◌, ◌≢◌, ℕ, zero, suc, ◌+◌, ◌<◌, ◌≤◌, Bool, true, false, cond, List, [], ◌∷◌, ◌++◌, length, refl, ap, sym, subst, ◌∙◌, inl, inr, arith}
-use Rattle.std.specs.Prelude.{◌⊎◌, Option, Some, None, IsTrue}
-use Rattle.std.proofs.lemmas.Bool.{cases_Bool, cases_eq}
-use Rattle.page_base.specs.declared.numbers.Mode.{Mode}
+use Rattle.std.specs.Prelude.{◌⊎◌, Some}
 use Rattle.page_base.specs.declared.numbers.PageId.{PageId}
-use Rattle.page_base.specs.Slots.{Slots, with_slot}
-use Rattle.page_base.proofs.PagesLemmas.{cases_page}
-use Rattle.page_fmt.specs.Content.{IsPage}
-use Rattle.page_dev.specs.Files.{Files}
-use Rattle.plain_model.specs.Legal.{Legal}
+use Rattle.page_base.specs.Slots.{with_slot}
 use Rattle.plain_model.specs.Meaning.{change_and_reply}
-use Rattle.plain_model.specs.State.{Plain, session, committed, see, copy}
+use Rattle.plain_model.specs.State.{session, see}
 use Rattle.plain_model.specs.Tables.{apply}
-use Rattle.rec_log.specs.Records.{Record}
-use Rattle.snap_pages.specs.Shown.{Shown, counts, img}
+use Rattle.snap_pages.specs.Shown.{counts}
 use Rattle.sys_cat.specs.declared.desc.TableDesc.{TableDesc}
 use Rattle.page_tables.specs.Bases.{IsBase}
-use Rattle.page_tables.specs.Claims.{Claimable}
 use Rattle.page_tables.specs.Mine.{written}
-use Rattle.page_tables.specs.Owners.{is_there}
 use Rattle.page_tables.specs.Sheets.{sheets}
 use Rattle.page_tables.specs.Writes.{done}
 use Rattle.open_work.specs.Moves.{Changes}
-use Rattle.open_work.specs.Open.{settled, alone, before}
 use Rattle.open_work.proofs.OpenLemmas.{settled_same, alone_other, alone_own, before_same}
-use Rattle.open_tables.specs.Back.{Back}
 use Rattle.open_tables.proofs.BackLemmas.{pushed}
 use Rattle.open_commits.proofs.AheadLemmas.{lacking}
-use Rattle.step_words.specs.declared.point.Point.{Point}
-use Rattle.step_words.specs.declared.point.Point.TheVariants.{Latch as Latching, Change, Commit, Say, Take}
+use Rattle.step_words.specs.declared.point.Point.TheVariants.{Take}
 use Rattle.step_words.specs.declared.stage.DbKind.TheVariants.{Source, Snap}
-use Rattle.step_words.specs.Courses.{Course, Draft}
-use Rattle.step_words.specs.Coming.{coming, claims_left, edits_left, taken_at}
-use Rattle.step_words.specs.Sittings.{Sitting, stmt_at, undoes_all}
+use Rattle.step_words.specs.Courses.{Course}
+use Rattle.step_words.specs.Coming.{claims_left, edits_left}
+use Rattle.step_words.specs.Sittings.{stmt_at, undoes_all}
 use Rattle.step_words.specs.Seats.{Seated}
 use Rattle.step_words.proofs.TakenLemmas.{none_left}
-use Rattle.step_state.specs.State.{State, Fixed, IsSession, seat, works, many, machine, slots_at, settled_of, alone_of, before_of}
-use Rattle.step_state.specs.Holding.{holds_all, writes, lock_at}
+use Rattle.step_state.specs.State.{State, IsSession, seat, works, many, machine, slots_at, settled_of, alone_of, before_of}
+use Rattle.step_state.specs.Holding.{writes, lock_at}
 use Rattle.step_state.specs.Own.{IsSafeSession}
 use Rattle.step_state.specs.Plans.{AreOnOwn, SpreadAll, IsPlanned}
-use Rattle.step_state.specs.Told.{AreSeen, SeesSource, GoBack, IsToldSource, IsToldReading, IsTold, IsToldWhole}
+use Rattle.step_state.specs.Told.{AreSeen, SeesSource, IsToldSource, IsToldReading, IsTold}
 use Rattle.step_state.specs.Safe.{Safe, IsContent}
-use Rattle.step_state.specs.Steps.{LeavesQuiet, LeavesContent, Quietly}
-use Rattle.step_state.proofs.KeptLemmas.{source_same}
-use Rattle.step_state.proofs.SameLemmas.{mapped_same, copies_same, owing_same, gathered_same}
+use Rattle.step_state.specs.Steps.{LeavesQuiet}
 use Rattle.step_state.proofs.StandingLemmas.{is_many}
-use Rattle.safe_write.specs.Changing.{next_write, record_of, course_after, point_after, seat_after, DoesChange}
+use Rattle.safe_write.specs.Setting.{record_of}
+use Rattle.safe_write.specs.Changing.{next_write, course_after, point_after, seat_after, DoesChange}
 use Rattle.safe_write.proofs.ChangeSeat.{by_point, some_same}
-use Rattle.safe_write.proofs.ChangeWhole.{now, else, as_many, history, restores_same, held_same, image_else}
-use Rattle.safe_write.proofs.Writing.{AsTaken, at_source, at_edit, taken_all, on_course, planned, is_claimable, were_taken, coming_is, goes_now, own_now, lies_now, lacks, as_it_stands, has_room, spread_now, go_pushed, sized_more, size_kept}
+use Rattle.safe_write.proofs.SetWhole.{now, else}
+use Rattle.safe_write.proofs.SetTold.{settled_over, alone_over, before_over, source_over, quiet}
+use Rattle.safe_write.proofs.Writing.{at_source, at_edit, taken_all, on_course, planned, is_claimable, coming_is, goes_now, own_now, lies_now, lacks, as_it_stands, has_room, spread_now, go_pushed, sized_more, size_kept}
 
 module _ (e s : State) (k : ℕ) (safe : Safe e) (d : DoesChange e s k) (ds : List TableDesc) (content : IsContent e ds) where
   abbrev y : Seated
   y = seat_after (seat e k) d.course d.drafts (record_of (slots_at e) (next_write d.course d.draft))
 
   me : IsSafeSession e k
-  me = safe.sessions k d.is
+  me = safe.sessions k d.sets.is
 
   -- THE CHANGE AS ONE OF OPEN WORK
 
@@ -65,37 +53,27 @@ module _ (e s : State) (k : ℕ) (safe : Safe e) (d : DoesChange e s k) (ds : Li
   moves : Changes (many e) k (works e) (works s) (record_of (slots_at e) (next_write d.course d.draft)) (slots_at e) (slots_at s)
   moves = record {
     has = record {
-      there = is_many e k d.is;
-      own = ap (λ (x : Seated). x.work.recs) (now e s k safe d);
-      others = λ j ne. ap (λ (x : Seated). x.work.recs) (else e s k safe d j ne);
+      there = is_many e k d.sets.is;
+      own = ap (λ (x : Seated). x.work.recs) (now e s k d.page y safe d.sets);
+      others = λ j ne. ap (λ (x : Seated). x.work.recs) (else e s k d.page y safe d.sets j ne);
       apart = λ j ne. lacking (works e j) (next_write d.course d.draft).page (next_write d.course d.draft).slot (lacks e s k safe d ds content j (next_write d.course d.draft).slot ne);
     };
     was = refl;
     is = d.slot ∙ ap (λ p. with_slot (slots_at e) p (next_write d.course d.draft).slot (next_write d.course d.draft).bytes) (sym d.on);
   }
 
-  same_many : many s ≡ many e
-  same_many = ap (λ n. n + 1) (as_many e s k safe d)
-
   pub settled_now : settled_of s ≡ settled_of e
-  settled_now = ap (λ n. settled n (works s) (slots_at s)) same_many ∙ settled_same (many e) k (works e) (works s) (record_of (slots_at e) (next_write d.course d.draft)) (slots_at e) (slots_at s) moves
+  settled_now = settled_over e s k d.page y safe d.sets ds content (settled_same (many e) k (works e) (works s) (record_of (slots_at e) (next_write d.course d.draft)) (slots_at e) (slots_at s) moves)
 
   pub alone_else : (j : ℕ) → j ≢ k → alone_of s j ≡ alone_of e j
-  alone_else j ne = ap (λ n. alone n (works s) j (slots_at s)) same_many ∙ alone_other (many e) k (works e) (works s) (record_of (slots_at e) (next_write d.course d.draft)) (slots_at e) (slots_at s) moves j ne
+  alone_else j ne = alone_over e s k d.page y safe d.sets ds content j (alone_of e j) (alone_other (many e) k (works e) (works s) (record_of (slots_at e) (next_write d.course d.draft)) (slots_at e) (slots_at s) moves j ne)
 
   pub alone_now : alone_of s k ≡ written (next_write d.course d.draft) (alone_of e k)
-  alone_now = ap (λ n. alone n (works s) k (slots_at s)) same_many ∙ alone_own (many e) k (works e) (works s) (record_of (slots_at e) (next_write d.course d.draft)) (slots_at e) (slots_at s) moves
+  alone_now = alone_over e s k d.page y safe d.sets ds content k (written (next_write d.course d.draft) (alone_of e k)) (alone_own (many e) k (works e) (works s) (record_of (slots_at e) (next_write d.course d.draft)) (slots_at e) (slots_at s) moves)
 
-  before_at : (j base : ℕ) → base ≡ (seat e j).base → IsSession e j → before (many s) (works s) j base (slots_at s) ≡ before_of e j
-  before_at j base at is =
-      ap (λ b. before (many s) (works s) j b (slots_at s)) at ∙ ap (λ n. before n (works s) j (seat e j).base (slots_at s)) same_many
-      ∙ before_same (many e) k (works e) (works s) (record_of (slots_at e) (next_write d.course d.draft)) (slots_at e) (slots_at s) moves j (seat e j).base (safe.sessions j is).seated.posed.based
-
-  pub before_now : before_of s k ≡ before_of e k
-  before_now = before_at k (seat s k).base (ap (λ (x : Seated). x.base) (now e s k safe d)) d.is
-
-  pub before_else : (j : ℕ) → IsSession e j → j ≢ k → before_of s j ≡ before_of e j
-  before_else j is ne = before_at j (seat s j).base (ap (λ (x : Seated). x.base) (else e s k safe d j ne)) is
+  before_at : (j : ℕ) → IsSession e j → (seat s j).base ≡ (seat e j).base → before_of s j ≡ before_of e j
+  before_at j is at = before_over e s k d.page y safe d.sets ds content j (seat s j).base at
+      (before_same (many e) k (works e) (works s) (record_of (slots_at e) (next_write d.course d.draft)) (slots_at e) (slots_at s) moves j (seat e j).base (safe.sessions j is).seated.posed.based)
 
   -- THE PLAN GOES ON
 
@@ -125,7 +103,7 @@ module _ (e s : State) (k : ℕ) (safe : Safe e) (d : DoesChange e s k) (ds : Li
   -- ITS SESSION
 
   told : IsToldSource (counts e.pages) ds (seat e k) (lock_at e k) (session (machine e) k) (alone_of e k) (before_of e k) (see (machine e) k)
-  told = (content.1 k d.is).source
+  told = (content.1 k d.sets.is).source
 
   quiet_point : undoes_all (seat e k).sitting.point (stmt_at (seat e k).sitting) ≡ false
   quiet_point = ap (λ t. undoes_all t (stmt_at (seat e k).sitting)) d.at
@@ -170,47 +148,7 @@ module _ (e s : State) (k : ℕ) (safe : Safe e) (d : DoesChange e s k) (ds : Li
   }
 
   pub own_told : IsTold s ds k
-  own_told = record {
-    source = subst (λ x. IsToldSource (counts s.pages) ds x (lock_at s k) (session (machine s) k) (alone_of s k) (before_of s k) (see (machine s) k)) (sym (now e s k safe d))
-        (source_same (counts e.pages) (counts s.pages) ds y (lock_at e k) (lock_at s k) (session (machine e) k) (session (machine s) k) (written (next_write d.course d.draft) (alone_of e k)) (alone_of s k) (before_of e k) (before_of s k) (see (machine e) k) (see (machine s) k)
-        d.places.counts (held_same e s k safe d k) (ap (λ (m : Plain). session m k) (history e s k safe d)) alone_now before_now (ap (λ (m : Plain). see m k) (history e s k safe d)) told_now);
-    reading = subst (λ x. IsToldReading s.pages (machine s) x) (sym (now e s k safe d)) reading_now;
-  }
+  own_told = source_over e s k d.page y safe d.sets ds content y (written (next_write d.course d.draft) (alone_of e k)) (before_of e k) alone_now (before_at k d.sets.is (ap (λ (x : Seated). x.base) (now e s k d.page y safe d.sets))) (now e s k d.page y safe d.sets) told_now reading_now
 
-  -- THE OTHERS, AND THE WHOLE
-
-  pub quiet : LeavesQuiet e s k
-  quiet = record {
-    alone = λ j is ne. alone_else j ne;
-    before = before_else;
-    see = λ j is ne. ap (λ (m : Plain). see m j) (history e s k safe d);
-    views = λ j c n is ne within place kept. (n, (λ i. sym d.places.places i c) ∙ place, (d.views.each n kept).0, (d.views.each n kept).1);
-    copies = λ j c is ne within. ap (λ (m : Plain). copy m (seat e j).sitting.current) (history e s k safe d);
-  }
-
-  images_now : (p : PageId) → is_there (counts s.pages) p ≡ true → IsPage (img s.pages p)
-  images_now p there = elim (cases_page p d.page) [
-    | inl here ↦ subst (λ q. IsPage (img s.pages q)) (sym here) d.whole
-    | inr ne ↦ subst IsPage (sym (image_else e s k safe d p ne)) (content.0.images p (sym (ap (λ f. is_there f p) d.places.counts) ∙ there))
-  ]
-
-  legal_now : Legal s.fixed.opening s.fixed.scripts s.events
-  legal_now = subst (λ (f : Fixed). Legal f.opening f.scripts s.events) (sym d.fixed) (subst (λ es. Legal e.fixed.opening e.fixed.scripts es) (sym d.events) content.0.legal)
-
-  source_now : IsBase (counts s.pages) (sheets (settled_of s)) ds (committed (machine s))
-  source_now =
-      subst (λ f. IsBase f (sheets (settled_of s)) ds (committed (machine s))) (sym d.places.counts)
-      (subst (λ (t : Slots). IsBase (counts e.pages) (sheets t) ds (committed (machine s))) (sym settled_now)
-      (subst (λ (m : Plain). IsBase (counts e.pages) (sheets (settled_of e)) ds (committed m)) (sym (history e s k safe d)) content.0.source))
-
-  pub whole_told : IsToldWhole s ds
-  whole_told = record {
-    tells = subst (λ (f : Files). IsTrue f.tells) (sym d.holds.files) content.0.tells;
-    legal = legal_now;
-    images = images_now;
-    mapped = mapped_same e s k safe.sessions d.snaps d.places d.views d.places.counts (λ name. ap (λ (m : Plain). copy m name) (history e s k safe d)) ds content.0;
-    copies = copies_same e s k safe.sessions d.snaps d.places d.views d.places.counts (λ name. ap (λ (m : Plain). copy m name) (history e s k safe d)) ds content.0;
-    owing = owing_same e s k safe.sessions d.snaps d.places d.views d.places.counts (λ name. ap (λ (m : Plain). copy m name) (history e s k safe d)) ds content.0;
-    source = source_now;
-    gathered = gathered_same e s k d.is y safe.whole d.snaps d.places d.fixed (restores_same e s k safe d) d.seats ds content.0 d.views refl;
-  }
+  pub others : LeavesQuiet e s k
+  others = quiet e s k d.page y safe d.sets ds content alone_else (λ j is ne. before_at j is (ap (λ (x : Seated). x.base) (else e s k d.page y safe d.sets j ne)))

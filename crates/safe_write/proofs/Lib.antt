@@ -1,5 +1,6 @@
+pub mod SetWhole
+pub mod SetTold
 pub mod ChangeSeat
 pub mod Writing
-pub mod ChangeWhole
 pub mod ChangeTold
 pub mod ChangeKeeps

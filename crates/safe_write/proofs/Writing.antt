@@ -51,7 +51,8 @@ use Rattle.step_state.specs.Told.{IsToldSource, AreSized, GoBack}
 use Rattle.step_state.specs.Safe.{Safe, IsContent}
 use Rattle.step_state.proofs.PageLemmas.{page_is_small}
 use Rattle.step_state.proofs.StandingLemmas.{nothing_beside, nobody_all, page_apart, claims_beside, tells_all}
-use Rattle.safe_write.specs.Changing.{next_write, record_of, course_after, DoesChange}
+use Rattle.safe_write.specs.Setting.{record_of}
+use Rattle.safe_write.specs.Changing.{next_write, course_after, DoesChange}
 use Rattle.safe_write.proofs.ChangeSeat.{editing, all_taken, edit_there}
 
 -- EDITS, WHERE THE SAME PAGES ARE CLAIMED
@@ -120,7 +121,7 @@ pub sized_more : (rs : List Record) (r : Record) → AreSized rs → (r.page.pag
 sized_more [] r a h = (h, tt)
 sized_more (x ∷ rs) r a h = (a.0, sized_more rs r a.1 h)
 
-spread_head : (files : List ℕ) (s : Slots) (ws : List Write) → SpreadAll files s ws → AreSpread files (sheets s)
+pub spread_head : (files : List ℕ) (s : Slots) (ws : List Write) → SpreadAll files s ws → AreSpread files (sheets s)
 spread_head files s [] a = a
 spread_head files s (w ∷ ws) a = a.0
 
@@ -139,28 +140,28 @@ module _ (e s : State) (k : ℕ) (safe : Safe e) (d : DoesChange e s k) (ds : Li
   r = record_of (slots_at e) (next_write d.course d.draft)
 
   me : IsSafeSession e k
-  me = safe.sessions k d.is
+  me = safe.sessions k d.sets.is
 
   pub at_source : d.course.at ≡ Source
-  at_source = me.seated.editing d.page d.at d.course d.has
+  at_source = me.seated.writing d.course d.has (inr (editing (counts e.pages) (seat e k) _ (lock_at e k) me.seated d.page d.at d.course d.has d.draft d.drafts d.next r d.sets.unmarked))
 
   pub at_edit : is_planned d.course.stage ≡ true
-  at_edit = ap is_planned (editing (counts e.pages) (seat e k) _ (lock_at e k) me.seated d.page d.at d.course d.has d.draft d.drafts d.next r d.unmarked)
+  at_edit = ap is_planned (editing (counts e.pages) (seat e k) _ (lock_at e k) me.seated d.page d.at d.course d.has d.draft d.drafts d.next r d.sets.unmarked)
 
   pub taken_all : length d.course.taken ≡ length d.course.owners
-  taken_all = all_taken (counts e.pages) (seat e k) _ (lock_at e k) me.seated d.page d.at d.course d.has d.draft d.drafts d.next r d.unmarked
+  taken_all = all_taken (counts e.pages) (seat e k) _ (lock_at e k) me.seated d.page d.at d.course d.has d.draft d.drafts d.next r d.sets.unmarked
 
   pub on_course : IsOnCourse (counts e.pages) (seat e k) d.course
   on_course = me.seated.posed.course d.course d.has
 
   pub has_lock : lock_at e k 0 ≢ None
   has_lock none =
-      let past : is_past_all d.course.stage ≡ true = ap is_past_all (editing (counts e.pages) (seat e k) _ (lock_at e k) me.seated d.page d.at d.course d.has d.draft d.drafts d.next r d.unmarked) in
+      let past : is_past_all d.course.stage ≡ true = ap is_past_all (editing (counts e.pages) (seat e k) _ (lock_at e k) me.seated d.page d.at d.course d.has d.draft d.drafts d.next r d.sets.unmarked) in
       let enough = (me.seated.holding d.course d.has at_source).all past in
       (let wrong : false ≡ true = ap (λ o. suffices o (first_mode d.course.stmt)) (sym none) ∙ enough in cc)
 
   pub planned : IsPlanned (counts e.pages) ds (lock_at e k) (alone_of e k) (see (machine e) k) d.course
-  planned = (content.1 k d.is).source.planned d.course d.has at_source at_edit
+  planned = (content.1 k d.sets.is).source.planned d.course d.has at_source at_edit
 
   pub first_edit : IsDraftOn (counts e.pages) (length d.course.owners) d.draft
   first_edit = (subst (λ es. AllByRecursion (IsDraftOn (counts e.pages) (length d.course.owners)) es) d.next on_course.within).0
@@ -218,7 +219,7 @@ module _ (e s : State) (k : ℕ) (safe : Safe e) (d : DoesChange e s k) (ds : Li
     lacks_apart j i ne = page_apart e safe.sessions safe.whole ds content nobody k j (next_write d.course d.draft).page i ne off_alloc_now mine_now
 
     pub spread_apart : AreSpread (counts e.pages) (sheets (written (next_write d.course d.draft) (alone_of e k)))
-    spread_apart = (one_moves (counts e.pages) (writes (lock_at e k)) refl refl (alone_of e k) (content.1 k d.is).source.spread (next_write d.course d.draft) (inl mine)).spread
+    spread_apart = (one_moves (counts e.pages) (writes (lock_at e k)) refl refl (alone_of e k) (content.1 k d.sets.is).source.spread (next_write d.course d.draft) (inl mine)).spread
 
     pub lies_now : (r : Record) → r.page ≡ (next_write d.course d.draft).page → LiesIn (writes (lock_at e k)) (with_slot (alone_of e k) r.page r.slot r.after) r
     lies_now r at = inl (
@@ -259,4 +260,4 @@ module _ (e s : State) (k : ℕ) (safe : Safe e) (d : DoesChange e s k) (ds : Li
   pub size_kept : (next_write d.course d.draft).page.page % 1280 ≡ 0 → length (slots_at e (next_write d.course d.draft).page (next_write d.course d.draft).slot) ≡ length (next_write d.course d.draft).bytes
   size_kept every =
       let goes = (goes_now (taken_at d.course) were_taken).0 in
-      ap length (sym (as_it_stands (next_write d.course d.draft).slot)) ∙ same_size (counts e.pages) (alone_of e k) (next_write d.course d.draft) (content.1 k d.is).source.spread spread_now goes.there goes.index every
+      ap length (sym (as_it_stands (next_write d.course d.draft).slot)) ∙ same_size (counts e.pages) (alone_of e k) (next_write d.course d.draft) (content.1 k d.sets.is).source.spread spread_now goes.there goes.index every

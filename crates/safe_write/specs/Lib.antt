@@ -1,1 +1,4 @@
+pub mod Setting
 pub mod Changing
+pub mod Claiming
+pub mod Backing

@@ -11,6 +11,7 @@ use Rattle.page_tables.specs.Owners.{is_there}
 use Rattle.step_words.specs.declared.point.Point.{Point}
 use Rattle.step_words.specs.declared.point.Point.TheVariants.{Latch as Latching, Look, Fetch, Take, Change, Commit, Start, Leave, Gone}
 use Rattle.step_words.specs.declared.stage.DbKind.TheVariants.{Source}
+use Rattle.step_words.specs.declared.stage.Stage.TheVariants.{Claim as Claiming, Edit as Editing}
 use Rattle.step_words.specs.Courses.{Course}
 use Rattle.step_words.specs.Seats.{Seated, latch_at, Free}
 use Rattle.step_state.specs.State.{State, sess, seat, works, machine}
@@ -47,8 +48,8 @@ pub record IsSeated (files : List ℕ) (x : Seated) (latch : Option Latch) (held
   pub rooted : (n : ℕ) → held 0 ≡ None → held n ≡ None
   pub nowhere : held 0 ≡ None → x.work.recs ≡ []
   pub holding : (c : Course) → x.sitting.course ≡ Some c → c.at ≡ Source → HasLocks held c
-  -- an edit of a page is the source's, and so is what a statement commits
-  pub editing : (p : PageId) → x.sitting.point ≡ Change p → (c : Course) → x.sitting.course ≡ Some c → c.at ≡ Source
+  -- claims and edits are the source's, and so is what a statement commits
+  pub writing : (c : Course) → x.sitting.course ≡ Some c → (c.stage ≡ Claiming) ⊎ (c.stage ≡ Editing) → c.at ≡ Source
   pub committing : x.sitting.point ≡ Commit → (c : Course) → x.sitting.course ≡ Some c → c.at ≡ Source
 
 -- the name of the snapshot that it makes

@@ -10,13 +10,14 @@ use Rattle.table_walk.specs.declared.plan.Spot.{Spot}
 use Rattle.table_walk.specs.declared.plan.Spot.TheVariants.{Old, New}
 use Rattle.table_walk.specs.Addresses.{IsTarget}
 use Rattle.page_tables.specs.Owners.{is_there}
+use Rattle.page_tables.specs.Writes.{Write, claim}
 use Rattle.alloc_pages.specs.Spots.{spot_of}
 use Rattle.step_words.specs.declared.point.Point.{Point}
 use Rattle.step_words.specs.declared.point.Point.TheVariants.{Start, Lock, Latch, Look, Fetch, Take, Claim, Change, Undo, Cut, Heal, Gather, Swap, Commit, Say, Leave, Gone}
 use Rattle.step_words.specs.declared.stage.Stage.TheVariants.{Claim as Claiming, Edit as Editing, End}
 use Rattle.step_words.specs.Courses.{Course, Draft, Plain, Root, is_planned, is_past_all, is_past_table}
 use Rattle.step_words.specs.Coming.{draft_write, taken_at}
-use Rattle.step_words.specs.Sittings.{Sitting, stmt_at}
+use Rattle.step_words.specs.Sittings.{Sitting, stmt_at, ends_work}
 use Rattle.step_words.specs.Seats.{Seated, Grip, Free, Latched, Fetched}
 
 -- what a session may hold at a point: one latch at most, that of the page which the point names
@@ -86,6 +87,7 @@ pub record IsOnCourse (files : List ℕ) (x : Seated) (c : Course) : Type 0 wher
   pub unasked : is_past_all c.stage ≡ false → (c.base ≡ []) × (c.desc ≡ None)
   pub unread : is_past_table c.stage ≡ false → c.seen ≡ []
   pub fresh : is_planned c.stage ≡ false → (c.taken ≡ []) × (c.owners ≡ []) × (c.edits ≡ []) × (length x.work.recs ≡ x.base)
+  pub numbers : AllByRecursion (λ (number : ℕ). number + 1 < 4294967295) c.owners
   pub taken : length c.taken ≤ length c.owners
   pub claimed : (c.stage ≡ Editing) ⊎ (c.stage ≡ End) → length c.taken ≡ length c.owners
   pub apart : (i j : ℕ) (d : PageId) → i < j → j < length c.taken → slice_index_or c.taken i d ≢ slice_index_or c.taken j d
@@ -95,10 +97,25 @@ pub record IsOnCourse (files : List ℕ) (x : Seated) (c : Course) : Type 0 wher
   pub room : (length c.owners - length c.taken) + length c.edits ≤ x.work.spare
   pub ended : c.stage ≡ End → c.edits ≡ []
 
--- while it claims, the statement's records are those of its claims
-pub record AreClaimsOf (records : List Record) (taken : List PageId) : Type 0 where
-  pub many : length records ≡ length taken
-  pub each : (i : ℕ) (r : Record) (p : PageId) → i < length taken → ((slice_index_or records i r).page ≡ (spot_of (slice_index_or taken i p)).page) × ((slice_index_or records i r).slot ≡ (spot_of (slice_index_or taken i p)).slot)
+-- the record is of this write
+pub record IsRecordOf (r : Record) (w : Write) : Type 0 where
+  pub page : r.page ≡ w.page
+  pub slot : r.slot ≡ w.slot
+  pub after : r.after ≡ w.bytes
+
+-- while it claims, the statement's records are those of its claims, for these tables
+abbrev pub AreClaimsOf : List Record → List ℕ → List PageId → Type 0
+AreClaimsOf [] numbers [] = Unit {0}
+AreClaimsOf [] numbers (p ∷ taken) = ⊥
+AreClaimsOf (r ∷ records) numbers [] = ⊥
+AreClaimsOf (r ∷ records) [] (p ∷ taken) = ⊥
+AreClaimsOf (r ∷ records) (number ∷ numbers) (p ∷ taken) = IsRecordOf r (claim number p) × AreClaimsOf records numbers taken
+
+-- what a session takes back: what its statement has written, or all that its transaction has, where that ends
+pub record IsUndoing (x : Seated) (all : Bool) : Type 0 where
+  pub some : x.base < length x.work.recs
+  pub whole : all ≡ true → x.base ≡ 0
+  pub ends : ends_work (stmt_at x.sitting) ≡ all
 
 pub record IsPosed (files : List ℕ) (x : Seated) : Type 0 where
   pub grip : FitsGrip x.sitting.point x.sitting.found x.hold
@@ -111,6 +128,11 @@ pub record IsPosed (files : List ℕ) (x : Seated) : Type 0 where
   pub idle : x.sitting.depth ≡ 0 → x.base ≡ 0
   pub started : x.sitting.point ≡ Start → length x.work.recs ≡ x.base
   pub without : lacks_work x.sitting.point ≡ true → x.work.recs ≡ []
-  pub claims : (c : Course) → x.sitting.course ≡ Some c → c.stage ≡ Claiming → AreClaimsOf (drop x.base x.work.recs) c.taken
+  pub claims : (c : Course) → x.sitting.course ≡ Some c → c.stage ≡ Claiming → AreClaimsOf (drop x.base x.work.recs) c.owners c.taken
+  -- at a claim the next table is that of the owner
+  pub claiming : (owner : ℕ) → x.sitting.point ≡ Claim owner → (c : Course) × (x.sitting.course ≡ Some c) × (c.stage ≡ Claiming) × ((number : ℕ) × (numbers : List ℕ) × (drop (length c.taken) c.owners ≡ number ∷ numbers) × (owner ≡ number + 1))
+  pub undoes : (all : Bool) → x.sitting.point ≡ Undo all → IsUndoing x all
+  -- a refusal is said once the statement's records are taken back
+  pub says : x.sitting.point ≡ Say → x.sitting.course ≡ None → length x.work.recs ≡ x.base
   pub makes : is_making x.sitting.point ≡ false → x.making ≡ None
   pub unlatched : x.copied ≢ None → x.hold ≢ Free

@@ -37,6 +37,11 @@ is_ending (Some CommitTran) = true
 is_ending (Some Rollback) = true
 is_ending stmt = false
 
+-- or the session's script
+abbrev pub ends_work : Option Stmt → Bool
+ends_work None = true
+ends_work (Some stmt) = is_ending (Some stmt)
+
 -- whether the session takes back, or has just taken back, its whole transaction
 abbrev pub undoes_all : Point → Option Stmt → Bool
 undoes_all (Undo all) stmt = all
