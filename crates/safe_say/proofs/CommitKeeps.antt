@@ -37,7 +37,7 @@ use Rattle.step_words.specs.Seats.{Seated}
 use Rattle.step_state.specs.State.{State, Fixed, IsSession, sess, seat, works, many, machine, slots_at, settled_of, alone_of, before_of}
 use Rattle.step_state.specs.Holding.{is_x, holds_all, writes, lock_at, lock_named}
 use Rattle.step_state.specs.Own.{IsSafeSession}
-use Rattle.step_state.specs.Told.{AreSeen, SeesSource, GoBack, AreSized, IsSuccess, IsToldSource, IsToldReading, IsTold, IsToldWhole}
+use Rattle.step_state.specs.Told.{AreSeen, SeesSource, GoBack, SpreadBack, AreSized, IsSuccess, IsToldSource, IsToldReading, IsTold, IsToldWhole}
 use Rattle.step_state.specs.Safe.{Safe, IsContent}
 use Rattle.step_state.specs.Steps.{Steps, LeavesQuiet, LeavesContent, Quietly, Each}
 use Rattle.step_state.proofs.KeptLemmas.{source_same, reading_kept}
@@ -73,9 +73,11 @@ module _ (e s : State) (k : ℕ) (safe : Safe e) (d : DoesCommit e s k) (ds : Li
     spread = shown.base.spread;
     seen = λ c at source. cc;
     planned = λ c at source stage. cc;
+    apart = λ c is. cc;
     waits = λ stmt m at waiting number write. cc;
     goes = tt;
     sized = tt;
+    unwound = λ t. shown.base.spread;
     back = λ f. tt;
   }
 
@@ -204,7 +206,9 @@ module _ (e s : State) (k : ℕ) (safe : Safe e) (d : DoesCommit e s k) (ds : Li
       planned = λ c has source stage. absurd (not_past c has source (table_past_all c.stage (planned_past_table c.stage stage)));
       waits = λ stmt m at waiting number write. absurd (success_none stmt (old.waits stmt m at waiting number write));
       goes = subst (λ (xs : List Record). GoBack xs (alone_of e k)) (sym nothing) tt;
+      apart = old.apart;
       sized = old.sized;
+      unwound = λ t. subst (λ (xs : List Record). SpreadBack (counts e.pages) xs (alone_of e k)) (sym nothing) shown.base.spread;
       back = λ f. subst (λ (xs : List Record). Back (writes (lock_at e j)) xs (alone_of e k)) (sym nothing) tt;
     }
 

@@ -406,6 +406,8 @@ module _ (e s : State) (k : ℕ) (safe : Safe e) (d : DoesCommit e s k) (ds : Li
     planned = plan_now;
     waits = λ stmt m at waiting number write. success_now stmt (told.waits stmt m at waiting number write);
     goes = goes_now;
+    apart = told.apart;
     sized = told.sized;
+    unwound = λ t. absurd (let wrong : true ≡ false = sym t ∙ nobody j is in cc);
     back = λ f. back_on (works e j) (λ p i t. t) goes_now (subst (Back mine (works e j)) alone_is (told.back f));
   }

@@ -194,7 +194,7 @@ module _ (e s : State) (k : ℕ) (safe : Safe e) (d : DoesCommit e s k) (ds : Li
       were = λ i lt q. get_or_default c.taken i q (record { file = 0; page = 0 }) lt;
       there = λ i le lt. absurd (omega (arith, le, lt, taken));
       free = λ i le lt. absurd (omega (arith, le, lt, taken));
-      differ = λ i j lt l. on.apart i j (record { file = 0; page = 0 }) lt (omega (arith, l, taken));
+      differ = λ i j lt l. told.apart c has i j (record { file = 0; page = 0 }) lt (omega (arith, l, taken));
       targets = λ i lt. on.targets i (record { file = 0; page = 0 }) (omega (arith, lt, taken));
     }
 

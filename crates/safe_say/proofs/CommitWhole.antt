@@ -131,6 +131,9 @@ module _ (e s : State) (k : ℕ) (safe : Safe e) (d : DoesCommit e s k) where
     started = λ at. refl;
     without = λ t. refl;
     claims = λ c at stage. cc;
+    claiming = λ owner at. cc;
+    undoes = λ all at. cc;
+    says = λ at none. cc;
     makes = λ f. none_made;
     unlatched = me.seated.posed.unlatched;
   }
@@ -143,7 +146,7 @@ module _ (e s : State) (k : ℕ) (safe : Safe e) (d : DoesCommit e s k) where
     rooted = λ n none. held_none n;
     nowhere = λ none. refl;
     holding = λ c at source. cc;
-    editing = λ p at. cc;
+    writing = λ c is t. cc;
     committing = λ at c is. cc;
   }
 

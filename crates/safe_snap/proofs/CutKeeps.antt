@@ -10,7 +10,7 @@ use Rattle.snap_cat.specs.Catalog.{Snap, snap_at}
 use Rattle.snap_pages.specs.Cuts.{place_of, snap_by, is_open_by}
 use Rattle.snap_pages.specs.Shown.{catalog, count, counts, set_of}
 use Rattle.step_words.specs.declared.point.Point.{Point}
-use Rattle.step_words.specs.declared.point.Point.TheVariants.{Start, Cut, Change, Commit}
+use Rattle.step_words.specs.declared.point.Point.TheVariants.{Start, Cut, Change, Claim, Undo, Commit}
 use Rattle.step_words.specs.declared.stage.DbKind.TheVariants.{Source}
 use Rattle.step_words.specs.Courses.{Course}
 use Rattle.step_words.specs.Seats.{Seated, Free, latch_at}
@@ -56,6 +56,9 @@ module _ (e s : State) (k : ℕ) (safe : Safe e) (d : DoesCut e s k) where
     started = λ at. absurd (by_owed (λ t. t ≡ Start → ⊥) d.owed.recs (λ q. cc) (λ q. cc) at);
     without = λ t. no_records;
     claims = λ c at stage. absurd (no_course c at);
+    claiming = λ owner at. absurd (by_owed (λ t. t ≡ Claim owner → ⊥) d.owed.recs (λ q. cc) (λ q. cc) at);
+    undoes = λ all at. absurd (by_owed (λ t. t ≡ Undo all → ⊥) d.owed.recs (λ q. cc) (λ q. cc) at);
+    says = λ at none. (let few : (seat e k).base ≤ length (seat e k).work.recs = me.seated.posed.based in let nothing = ap length no_records in omega (arith, few, nothing));
     makes = λ f. absurd (let wrong : true ≡ false = sym (by_owed (λ t. is_making t ≡ true) d.owed.recs refl refl) ∙ f in cc);
     unlatched = me.seated.posed.unlatched;
   }
@@ -69,7 +72,7 @@ module _ (e s : State) (k : ℕ) (safe : Safe e) (d : DoesCut e s k) where
     nowhere = me.seated.nowhere;
     holding = λ c at source. absurd (no_course c at);
     committing = λ at. absurd (by_owed (λ t. t ≡ Commit → ⊥) d.owed.recs (λ q. cc) (λ q. cc) at);
-    editing = λ p at. absurd (by_owed (λ t. t ≡ Change p → ⊥) d.owed.recs (λ q. cc) (λ q. cc) at);
+    writing = λ c at t. absurd (no_course c at);
   }
 
   -- the new snapshot is there, under its name

@@ -174,9 +174,11 @@ module _ (e s : State) (k : ℕ) (safe : Safe e) (d : DoesCut e s k) (ds : List 
     spread = told.spread;
     seen = λ c at source. absurd (no_course c at);
     planned = λ c at source stage. absurd (no_course c at);
+    apart = told.apart;
     waits = told.waits;
     goes = told.goes;
     sized = told.sized;
+    unwound = told.unwound;
     back = told.back;
   }
 

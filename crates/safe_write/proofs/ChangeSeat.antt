@@ -116,7 +116,6 @@ module _ (files : List ℕ) (x : Seated) (latch : Option Latch) (held : ℕ → 
     numbers = on.numbers;
     taken = on.taken;
     claimed = λ t. all_taken;
-    apart = on.apart;
     targets = on.targets;
     there = on.there;
     within = edits_left.1;

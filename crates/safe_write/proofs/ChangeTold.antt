@@ -27,7 +27,7 @@ use Rattle.step_state.specs.State.{State, IsSession, seat, works, many, machine,
 use Rattle.step_state.specs.Holding.{writes, lock_at}
 use Rattle.step_state.specs.Own.{IsSafeSession}
 use Rattle.step_state.specs.Plans.{AreOnOwn, SpreadAll, IsPlanned}
-use Rattle.step_state.specs.Told.{AreSeen, SeesSource, IsToldSource, IsToldReading, IsTold}
+use Rattle.step_state.specs.Told.{AreSeen, SeesSource, DifferAll, IsToldSource, IsToldReading, IsTold}
 use Rattle.step_state.specs.Safe.{Safe, IsContent}
 use Rattle.step_state.specs.Steps.{LeavesQuiet}
 use Rattle.step_state.proofs.StandingLemmas.{is_many}
@@ -36,7 +36,7 @@ use Rattle.safe_write.specs.Changing.{next_write, course_after, point_after, sea
 use Rattle.safe_write.proofs.ChangeSeat.{by_point, some_same}
 use Rattle.safe_write.proofs.SetWhole.{now, else}
 use Rattle.safe_write.proofs.SetTold.{settled_over, alone_over, before_over, source_over, quiet}
-use Rattle.safe_write.proofs.Writing.{at_source, at_edit, taken_all, on_course, planned, is_claimable, coming_is, goes_now, own_now, lies_now, lacks, as_it_stands, has_room, spread_now, go_pushed, sized_more, size_kept}
+use Rattle.safe_write.proofs.Writing.{at_source, at_edit, taken_all, on_course, planned, is_claimable, coming_is, goes_now, own_now, lies_now, lacks, as_it_stands, has_room, spread_now, go_pushed, spread_pushed, sized_more, size_kept}
 
 module _ (e s : State) (k : ℕ) (safe : Safe e) (d : DoesChange e s k) (ds : List TableDesc) (content : IsContent e ds) where
   abbrev y : Seated
@@ -128,9 +128,11 @@ module _ (e s : State) (k : ℕ) (safe : Safe e) (d : DoesChange e s k) (ds : Li
     spread = spread_now e s k safe d ds content;
     seen = seen_now;
     planned = λ c at source stage. subst (IsPlanned (counts e.pages) ds (lock_at e k) (written (next_write d.course d.draft) (alone_of e k)) (see (machine e) k)) (some_same (course_after d.course d.drafts) c at) plan_now;
+    apart = λ c at. subst (λ (g : Course). DifferAll g.taken) (some_same (course_after d.course d.drafts) c at) (told.apart d.course d.has);
     waits = told.waits;
     goes = go_pushed (works e k) (alone_of e k) (record_of (slots_at e) (next_write d.course d.draft)) was_there (inr (has_room e s k safe d ds content)) told.goes;
     sized = sized_more (works e k) (record_of (slots_at e) (next_write d.course d.draft)) told.sized (size_kept e s k safe d ds content);
+    unwound = λ t. spread_pushed (counts e.pages) (works e k) (alone_of e k) (record_of (slots_at e) (next_write d.course d.draft)) was_there (spread_now e s k safe d ds content) (told.unwound t);
     back = λ f. pushed (writes (lock_at e k)) (works e k) (alone_of e k) (record_of (slots_at e) (next_write d.course d.draft)) was_there (inr (has_room e s k safe d ds content)) (lies_now e s k safe d ds content f (record_of (slots_at e) (next_write d.course d.draft)) refl) (told.back f);
   }
 

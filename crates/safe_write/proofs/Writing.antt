@@ -47,7 +47,7 @@ use Rattle.step_state.specs.Holding.{holds_all, writes, lock_at}
 use Rattle.step_state.specs.Posed.{IsOnCourse, IsDraftOn, IsEditOn, NamesBelow}
 use Rattle.step_state.specs.Own.{IsSafeSession}
 use Rattle.step_state.specs.Plans.{AreOnOwn, SpreadAll, IsPlanned}
-use Rattle.step_state.specs.Told.{IsToldSource, AreSized, GoBack}
+use Rattle.step_state.specs.Told.{IsToldSource, AreSized, SpreadBack, GoBack}
 use Rattle.step_state.specs.Safe.{Safe, IsContent}
 use Rattle.step_state.proofs.PageLemmas.{page_is_small}
 use Rattle.step_state.proofs.StandingLemmas.{nothing_beside, nobody_all, page_apart, claims_beside, tells_all}
@@ -78,11 +78,14 @@ draft_same files n (Root e d new) claimed other on same = λ t. draft_at (place_
 
 -- WHAT COMES BACK
 
+pub pushed_undone : (rs : List Record) (s : Slots) (r : Record) → s r.page r.slot ≡ r.before → undone (rs ++ r ∷ []) (with_slot s r.page r.slot r.after) ≡ undone rs s
+pushed_undone rs s r was = ap (λ x. undone (rs ++ record { page = r.page; slot = r.slot; before = x; after = r.after } ∷ []) (with_slot s r.page r.slot r.after)) (sym was) ∙ undone-push rs s r.page r.slot r.after
+
 pub go_pushed : (rs : List Record) (s : Slots) (r : Record) → s r.page r.slot ≡ r.before → (length r.before ≡ length r.after) ⊎ (used (sheets s r.page) ≤ 8192) → GoBack rs s → GoBack (rs ++ r ∷ []) (with_slot s r.page r.slot r.after)
 go_pushed [] s r was fits b = (tt, with_slot-same s r.page r.slot r.after, again fits)
   where
     restored : with_slot (with_slot s r.page r.slot r.after) r.page r.slot r.before ≡ s
-    restored = ap (λ x. with_slot (with_slot s r.page r.slot r.after) r.page r.slot x) (sym was) ∙ undone-push [] s r.page r.slot r.after
+    restored = pushed_undone [] s r was
 
     again : (length r.before ≡ length r.after) ⊎ (used (sheets s r.page) ≤ 8192) → FitsBack (with_slot s r.page r.slot r.after) r
     again (inl size) = inl size
@@ -91,9 +94,10 @@ go_pushed (x ∷ rs) s r was fits b =
     let same : undone (rs ++ r ∷ []) (with_slot s r.page r.slot r.after) ≡ undone rs s = pushed_undone rs s r was in
     let back = subst (λ (t : Slots). (t x.page x.slot ≡ x.after) × FitsBack t x) (sym same) (b.1, b.2) in
     (go_pushed rs s r was fits b.0, back.0, back.1)
-  where
-    pushed_undone : (rs : List Record) (s : Slots) (r : Record) → s r.page r.slot ≡ r.before → undone (rs ++ r ∷ []) (with_slot s r.page r.slot r.after) ≡ undone rs s
-    pushed_undone rs s r was = ap (λ x. undone (rs ++ record { page = r.page; slot = r.slot; before = x; after = r.after } ∷ []) (with_slot s r.page r.slot r.after)) (sym was) ∙ undone-push rs s r.page r.slot r.after
+
+pub spread_pushed : (files : List ℕ) (rs : List Record) (s : Slots) (r : Record) → s r.page r.slot ≡ r.before → AreSpread files (sheets (with_slot s r.page r.slot r.after)) → SpreadBack files rs s → SpreadBack files (rs ++ r ∷ []) (with_slot s r.page r.slot r.after)
+spread_pushed files [] s r was now b = (now, subst (λ (t : Slots). AreSpread files (sheets t)) (sym (pushed_undone [] s r was)) b)
+spread_pushed files (x ∷ rs) s r was now b = (spread_pushed files rs s r was now b.0, subst (λ (t : Slots). AreSpread files (sheets t)) (sym (pushed_undone (x ∷ rs) s r was)) b.1)
 
 -- writes that leave allocation pages such leave their slots as long as they were
 slot_size : (files : List ℕ) (s : Slots) (p : PageId) (i : ℕ) → IsSpread files (sheets s) p → i < MAX_SLOTS → ((i < span files p) × (length (s p i) ≡ 4)) ⊎ ((span files p ≤ i) × (length (s p i) ≡ 0))
@@ -173,7 +177,7 @@ module _ (e s : State) (k : ℕ) (safe : Safe e) (d : DoesChange e s k) (ds : Li
     were = were;
     there = λ i le lt. absurd (omega (arith, le, lt, taken_all));
     free = λ i le lt. absurd (omega (arith, le, lt, taken_all));
-    differ = λ i j lt l same. on_course.apart i j (record { file = 0; page = 0 }) lt (omega (arith, l, taken_all)) (were i (omega (arith, lt, l, taken_all)) (record { file = 0; page = 0 }) ∙ same ∙ sym (were j (omega (arith, l, taken_all)) (record { file = 0; page = 0 })));
+    differ = λ i j lt l same. (content.1 k d.sets.is).source.apart d.course d.has i j (record { file = 0; page = 0 }) lt (omega (arith, l, taken_all)) (were i (omega (arith, lt, l, taken_all)) (record { file = 0; page = 0 }) ∙ same ∙ sym (were j (omega (arith, l, taken_all)) (record { file = 0; page = 0 })));
     targets = λ i lt. subst IsTarget (were i (omega (arith, lt, taken_all)) (record { file = 0; page = 0 })) (on_course.targets i (record { file = 0; page = 0 }) (omega (arith, lt, taken_all)));
   }
 

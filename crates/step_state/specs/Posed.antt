@@ -78,7 +78,7 @@ IsDraftOn files n (Plain e) = IsEditOn files n e.spot × NamesBelow n e.names
 IsDraftOn files n (Root e d new) = IsEditOn files n e.spot × (new < n)
 
 -- the course of a session: of its present statement, which is about tables; what it has read it forgets with the plan; the
--- pages that it has claimed differ, and may be named; there is room for the records of what is to come
+-- pages that it has claimed may be named; there is room for the records of what is to come
 pub record IsOnCourse (files : List ℕ) (x : Seated) (c : Course) : Type 0 where
   pub lent : stmt_at x.sitting ≡ Some c.stmt
   pub tables : is_of_tables c.stmt ≡ true
@@ -90,7 +90,6 @@ pub record IsOnCourse (files : List ℕ) (x : Seated) (c : Course) : Type 0 wher
   pub numbers : AllByRecursion (λ (number : ℕ). number + 1 < 4294967295) c.owners
   pub taken : length c.taken ≤ length c.owners
   pub claimed : (c.stage ≡ Editing) ⊎ (c.stage ≡ End) → length c.taken ≡ length c.owners
-  pub apart : (i j : ℕ) (d : PageId) → i < j → j < length c.taken → slice_index_or c.taken i d ≢ slice_index_or c.taken j d
   pub targets : (i : ℕ) (d : PageId) → i < length c.taken → IsTarget (slice_index_or c.taken i d)
   pub there : (i : ℕ) (d : PageId) → i < length c.taken → is_there files (slice_index_or c.taken i d) ≡ true
   pub within : AllByRecursion (IsDraftOn files (length c.owners)) c.edits

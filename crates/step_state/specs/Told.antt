@@ -1,5 +1,5 @@
 -- What holds of one session, and of the whole engine, where all files tell what they hold.
-use Rattle.std.specs.Prelude.{ℕ, ◌≡◌, ◌⊎◌, ◌+◌, ◌%◌, Bool, true, false, IsTrue, List, [], ◌∷◌, ◌++◌, length, Option, Some, None}
+use Rattle.std.specs.Prelude.{ℕ, ◌≡◌, ◌≢◌, ◌⊎◌, ◌+◌, ◌%◌, ◌<◌, Bool, true, false, IsTrue, List, [], ◌∷◌, ◌++◌, length, slice_index_or, Option, Some, None}
 use Rattle.std.specs.List.{AllByRecursion, Any}
 use Rattle.page_base.specs.declared.numbers.Mode.{Mode}
 use Rattle.page_base.specs.declared.numbers.Mode.TheVariants.{X}
@@ -65,6 +65,15 @@ GoBack (r ∷ rs) s = GoBack rs s × (undone rs s r.page r.slot ≡ r.after) × 
 abbrev pub AreSized : List Record → Type 0
 AreSized records = AllByRecursion (λ (r : Record). r.page.page % 1280 ≡ 0 → length r.before ≡ length r.after) records
 
+-- the allocation pages tell of their pages, whichever of the last records are taken back
+abbrev pub SpreadBack : List ℕ → List Record → Slots → Type 0
+SpreadBack files [] s = AreSpread files (sheets s)
+SpreadBack files (r ∷ rs) s = SpreadBack files rs s × AreSpread files (sheets (undone (r ∷ rs) s))
+
+-- no page is there twice
+abbrev pub DifferAll : List PageId → Type 0
+DifferAll pages = (i j : ℕ) (d : PageId) → i < j → j < length pages → slice_index_or pages i d ≢ slice_index_or pages j d
+
 -- a table is held in X, or all are
 abbrev pub IsHeld : List TableDesc → (ℕ → Option Mode) → List ℕ → Type 0
 IsHeld ds held name = (holds_all held ≡ true) ⊎ Any (λ d. (d.name ≡ name) × (held d.number.0 ≡ Some X)) ds
@@ -85,11 +94,14 @@ pub record IsToldSource (files : List ℕ) (ds : List TableDesc) (x : Seated) (h
   pub spread : AreSpread files (sheets own)
   pub seen : (c : Course) → x.sitting.course ≡ Some c → c.at ≡ Source → SeesSource files ds own c
   pub planned : (c : Course) → x.sitting.course ≡ Some c → c.at ≡ Source → is_planned c.stage ≡ true → IsPlanned files ds held own tables c
+  -- the pages that it has claimed differ
+  pub apart : (c : Course) → x.sitting.course ≡ Some c → DifferAll c.taken
   -- a reply that waits though the statement would succeed
   pub waits : (stmt : Stmt) (m : Message) → stmt_at x.sitting ≡ Some stmt → x.sitting.waiting ≡ Some (Msg m) → (m.number ≡ NO_ROOM) ⊎ (m.number ≡ LOG_FAILED) → is_write stmt ≡ true → IsSuccess ds held tables stmt
   -- its records can be taken back, and lie on pages of its own unless it holds all
   pub goes : GoBack x.work.recs own
   pub sized : AreSized x.work.recs
+  pub unwound : holds_all held ≡ true → SpreadBack files x.work.recs own
   pub back : holds_all held ≡ false → Back (writes held) x.work.recs own
 
 -- of a session and the snapshot that is its database
