@@ -4,3 +4,4 @@ pub mod ChangeSeat
 pub mod Writing
 pub mod ChangeTold
 pub mod ChangeKeeps
+pub mod ClaimSeat

@@ -6,7 +6,7 @@ use Rattle.page_tables.specs.Writes.{Write, claim}
 use Rattle.step_words.specs.Courses.{Course, Draft}
 use Rattle.step_words.specs.Coming.{coming, claims_of, draft_write}
 
-drop_next : (xs : List ℕ) (n x : ℕ) (ys : List ℕ) → drop n xs ≡ x ∷ ys → drop (n + 1) xs ≡ ys
+pub drop_next : (xs : List ℕ) (n x : ℕ) (ys : List ℕ) → drop n xs ≡ x ∷ ys → drop (n + 1) xs ≡ ys
 drop_next xs zero x ys e = ap (drop 1) e
 drop_next [] (suc n) x ys e = cc
 drop_next (z ∷ xs) (suc n) x ys e = (let same : suc n + 1 ≡ suc (n + 1) = omega arith in ap (λ m. drop m (z ∷ xs)) same) ∙ drop_next xs n x ys e
