@@ -5,3 +5,6 @@ pub mod Writing
 pub mod ChangeTold
 pub mod ChangeKeeps
 pub mod ClaimSeat
+pub mod ClaimLemmas
+pub mod ClaimTold
+pub mod ClaimKeeps

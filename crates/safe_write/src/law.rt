@@ -1,14 +1,21 @@
-//! That a change keeps the invariant, as a function whose contract says it.
+//! That steps which write pages keep the invariant, as functions whose contracts say it.
 
 ghost use Rattle.std.specs.Prelude.{ℕ};
 ghost use Rattle.step_state.specs.Safe.{Safe};
 ghost use Rattle.step_state.specs.State.{State};
 ghost use Rattle.step_state.specs.Steps.{Steps};
 ghost use Rattle.safe_write.specs.Changing.{DoesChange};
+ghost use Rattle.safe_write.specs.Claiming.{DoesClaim};
 
 /// A change of one slot, of a page that every sound snapshot has, with its record, leaves to others what it owes them; so the
 /// engine stays safe.
 pub fn a_change_keeps_the_engine_safe()
     ensures steps { (e s : State) (k : ℕ) → Safe e → DoesChange e s k → Steps e s k }
     ensures safe { (e s : State) (k : ℕ) → Safe e → DoesChange e s k → Safe s }
+{}
+
+/// And so does the claim of a free page, with its record.
+pub fn a_claim_keeps_the_engine_safe()
+    ensures steps { (e s : State) (k : ℕ) → Safe e → DoesClaim e s k → Steps e s k }
+    ensures safe { (e s : State) (k : ℕ) → Safe e → DoesClaim e s k → Safe s }
 {}
