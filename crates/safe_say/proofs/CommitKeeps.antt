@@ -77,7 +77,7 @@ module _ (e s : State) (k : ℕ) (safe : Safe e) (d : DoesCommit e s k) (ds : Li
     waits = λ stmt m at waiting number write. cc;
     goes = tt;
     sized = tt;
-    unwound = λ t. shown.base.spread;
+    unwound = shown.base.spread;
     back = λ f. tt;
   }
 
@@ -208,7 +208,7 @@ module _ (e s : State) (k : ℕ) (safe : Safe e) (d : DoesCommit e s k) (ds : Li
       goes = subst (λ (xs : List Record). GoBack xs (alone_of e k)) (sym nothing) tt;
       apart = old.apart;
       sized = old.sized;
-      unwound = λ t. subst (λ (xs : List Record). SpreadBack (counts e.pages) xs (alone_of e k)) (sym nothing) shown.base.spread;
+      unwound = subst (λ (xs : List Record). SpreadBack (counts e.pages) xs (alone_of e k)) (sym nothing) shown.base.spread;
       back = λ f. subst (λ (xs : List Record). Back (writes (lock_at e j)) xs (alone_of e k)) (sym nothing) tt;
     }
 

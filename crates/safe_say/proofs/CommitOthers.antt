@@ -61,13 +61,13 @@ use Rattle.step_state.specs.State.{State, IsSession, seat, works, many, machine,
 use Rattle.step_state.specs.Holding.{is_x, holds_all, writes, lock_at, lock_named}
 use Rattle.step_state.specs.Own.{IsSafeSession}
 use Rattle.step_state.specs.Plans.{AreOnOwn, IsPlanned}
-use Rattle.step_state.specs.Told.{AreSeen, SeesSource, GoBack, AreSized, IsHeld, IsSuccess, IsToldSource}
+use Rattle.step_state.specs.Told.{AreSeen, SeesSource, GoBack, SpreadBack, AreSized, IsHeld, IsSuccess, IsToldSource}
 use Rattle.step_state.specs.Safe.{Safe, IsContent}
 use Rattle.step_state.proofs.AlongLemmas.{AreAlike, go_along as go_back_along}
 use Rattle.step_state.proofs.StandingLemmas.{nobody_all, none_beside, claims_of, owners_apart, named_apart}
 use Rattle.safe_say.specs.Committing.{DoesCommit}
 use Rattle.safe_say.proofs.CommitAhead.{Stands, claims_mine_from, edits_mine_all, go_along, own_along, done_along}
-use Rattle.safe_say.proofs.CommitPages.{alone_then, before_then, k_behind, j_behind, k_saw}
+use Rattle.safe_say.proofs.CommitPages.{alone_then, before_then, k_behind, j_alone, j_behind, k_saw}
 use Rattle.safe_say.proofs.CommitShown.{IsShown, is_shown, is_orderly, HoldsTable, holds_table, changes_own}
 use Rattle.safe_say.proofs.CommitTables.{writes_is, seen_joined, plan_joined}
 
@@ -178,6 +178,14 @@ module _ (e s : State) (k : ℕ) (safe : Safe e) (d : DoesCommit e s k) (ds : Li
 
   spread_x : AreSpread files (sheets x)
   spread_x = spread_y files x mine theirs (works e j) [] (works e k) apart_jk lie_j nothing lie_k base_k.spread (subst (λ (t : Slots). AreSpread files (sheets t)) alone_is told.spread)
+
+  spread_on : (xs : List Record) → ((p : PageId) (i : ℕ) → names xs p i ≡ true → names (works e j) p i ≡ true) → LieWithin mine x xs → SpreadBack files xs (alone_of e j) → SpreadBack files xs x
+  spread_on [] some within b = spread_x
+  spread_on (r ∷ rs) some within b = (
+    spread_on rs (λ p i t. some p i (names_drop 1 (r ∷ rs) p i t)) (lie_drop 1 mine x (r ∷ rs) within) b.0,
+    spread_y files x mine theirs (works e j) (r ∷ rs) (works e k) apart_jk lie_j within lie_k base_k.spread
+        (subst (λ (t : Slots). AreSpread files (sheets t)) (sym (j_alone e s k safe d named j is ne (r ∷ rs) some) ∙ k_behind e s k safe d named j is ne (r ∷ rs) some ∙ ap (undone (works e k)) (j_behind e s k safe d named j is ne (r ∷ rs) some)) b.1),
+  )
 
   stands : Stands files mine theirs (works e k) x
   stands = record { own = works e j; lie_own = lie_j; lie_others = lie_k; tell = tell_x; spread = spread_x }
@@ -408,6 +416,6 @@ module _ (e s : State) (k : ℕ) (safe : Safe e) (d : DoesCommit e s k) (ds : Li
     goes = goes_now;
     apart = told.apart;
     sized = told.sized;
-    unwound = λ t. absurd (let wrong : true ≡ false = sym t ∙ nobody j is in cc);
+    unwound = spread_on (works e j) (λ p i t. t) lie_j told.unwound;
     back = λ f. back_on (works e j) (λ p i t. t) goes_now (subst (Back mine (works e j)) alone_is (told.back f));
   }

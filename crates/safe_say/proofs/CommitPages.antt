@@ -153,6 +153,24 @@ module _ (e s : State) (k : ℕ) (safe : Safe e) (d : DoesCommit e s k) where
         ∙ ap (λ (ys : List Record). undone ys (undone (all (many e) (with_part (with_part (works e) j xs) k [])) (slots_at e))) (k_part xs)
         ∙ ap (λ (w : Parts). undone (works e k) (undone (all (many e) w) (slots_at e))) (without_k xs)
 
+    -- and j's in front
+    pub j_alone : (xs : List Record) → AreSome xs → undone (all (many e) (with_part (works e) j xs)) (slots_at e) ≡ undone xs (alone_of e j)
+    j_alone xs some =
+        taken_out (many e) j (with_part (works e) j xs) (slots_at e) (is_many e j is) (λ m p i far t.
+        let its : names (works e j) p i ≡ true = some p i (sym (ap (λ (ys : List Record). names ys p i) (own_part (works e) j xs)) ∙ t) in
+        ap (λ (ys : List Record). names ys p i) (other_part (works e) j m xs far) ∙ named j m p i far its)
+        ∙ ap (λ (ys : List Record). undone ys (undone (all (many e) (with_part (with_part (works e) j xs) j [])) (slots_at e))) (own_part (works e) j xs)
+        ∙ ap (λ (w : Parts). undone xs (undone (all (many e) w) (slots_at e))) twice_e
+      where
+        twice_e : with_part (with_part (works e) j xs) j [] ≡ with_part (works e) j []
+        twice_e = λ i m. at m i
+          where
+            at : (m : ℕ) → with_part (with_part (works e) j xs) j [] m ≡ with_part (works e) j [] m
+            at m = elim (cases_eq m j) [
+              | inl here ↦ ap (λ o. with_part (with_part (works e) j xs) j [] o) here ∙ own_part (with_part (works e) j xs) j [] ∙ sym (ap (λ o. with_part (works e) j [] o) here ∙ own_part (works e) j [])
+              | inr far ↦ other_part (with_part (works e) j xs) j m [] far ∙ other_part (works e) j m xs far ∙ sym (other_part (works e) j m [] far)
+            ]
+
     -- and j's behind what it sees alone
     pub j_behind : (xs : List Record) → AreSome xs → undone (all (many e) (with_part (works s) j xs)) (slots_at e) ≡ undone xs (undone (all (many e) (with_part (works s) j [])) (slots_at e))
     j_behind xs some =

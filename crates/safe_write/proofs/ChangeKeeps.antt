@@ -1,6 +1,6 @@
 -- A change leaves to others what it owes them, and shows the rest.
-use Rattle.std.proofs.Common.{◌≡◌, ◌≢◌, ℕ, ◌+◌, Bool, true, false, cond, List, [], ◌∷◌, ◌++◌, refl, ap, sym, subst, ◌∙◌, inl, inr, arith}
-use Rattle.std.specs.Prelude.{Option, Some, None}
+use Rattle.std.proofs.Common.{◌≡◌, ◌≢◌, ℕ, ◌+◌, true, false, cond, [], ◌∷◌, ◌++◌, refl, ap, sym, ◌∙◌, inr, arith}
+use Rattle.std.specs.Prelude.{Some, None}
 use Rattle.page_base.specs.declared.numbers.PageId.{PageId}
 use Rattle.page_base.specs.Pages.{is_page}
 use Rattle.latch_book.specs.Latches.{latch_of}
@@ -12,14 +12,14 @@ use Rattle.plain_steps.specs.Phases.{first_mode}
 use Rattle.step_words.specs.declared.stage.Stage.TheVariants.{Edit as Editing}
 use Rattle.step_words.specs.Courses.{is_past_all}
 use Rattle.step_words.specs.Seats.{Seated}
-use Rattle.step_state.specs.State.{State, IsSession, sess, seat, machine, slots_at}
+use Rattle.step_state.specs.State.{State, sess, seat, slots_at}
 use Rattle.step_state.specs.Holding.{lock_at}
 use Rattle.step_state.specs.Snapshots.{page_read}
 use Rattle.step_state.specs.Own.{IsSafeSession, is_between, is_gone}
 use Rattle.step_state.specs.Whole.{grip_pin, gathered_on, seat_pins}
 use Rattle.step_state.specs.Safe.{Safe}
 use Rattle.step_state.specs.Steps.{Steps, Quietly}
-use Rattle.safe_write.specs.Setting.{record_of, SetsPage}
+use Rattle.safe_write.specs.Setting.{record_of}
 use Rattle.safe_write.specs.Changing.{next_write, seat_after, DoesChange}
 use Rattle.safe_write.proofs.ChangeSeat.{seated_after, by_point, editing}
 use Rattle.safe_write.proofs.SetWhole.{guards, whole_kept, beside_now, in_step_now, session_now}

@@ -1,8 +1,7 @@
 -- The session of a change by itself.
-use Rattle.std.proofs.Common.{◌≡◌, ◌≢◌, ℕ, zero, suc, ◌+◌, ◌-◌, ◌<◌, ◌≤◌, Bool, true, false, cond, ◌==◌, List, [], ◌∷◌, ◌++◌, length, drop, refl, ap, sym, subst, ◌∙◌, inl, inr, arith}
+use Rattle.std.proofs.Common.{◌≡◌, ◌≢◌, ℕ, suc, ◌+◌, ◌<◌, Bool, true, false, cond, ◌==◌, List, [], ◌∷◌, ◌++◌, length, refl, ap, sym, subst, ◌∙◌, inl, inr, arith}
 use Rattle.std.specs.Prelude.{◌⊎◌, Option, Some, None, slice_index_or}
 use Rattle.std.specs.List.{AllByRecursion}
-use Rattle.std.proofs.lemmas.Bool.{cases_Bool}
 use Rattle.std.proofs.lemmas.List.{length-append}
 use Rattle.page_base.specs.declared.numbers.Mode.{Mode}
 use Rattle.page_base.specs.declared.numbers.PageId.{PageId}
@@ -15,15 +14,14 @@ use Rattle.page_tables.specs.Owners.{is_there}
 use Rattle.step_words.specs.declared.point.Point.{Point}
 use Rattle.step_words.specs.declared.point.Point.TheVariants.{Start, Latch as Latching, Change, Claim, Undo, Commit, Say}
 use Rattle.step_words.specs.declared.stage.DbKind.TheVariants.{Source}
-use Rattle.step_words.specs.declared.stage.Stage.{Stage}
 use Rattle.step_words.specs.declared.stage.Stage.TheVariants.{Claim as Claiming, Edit as Editing, End}
 use Rattle.step_words.specs.Courses.{Course, Draft, Plain, Root, is_planned, is_past_all, is_past_table}
 use Rattle.step_words.specs.Coming.{taken_at}
 use Rattle.step_words.specs.Sittings.{Sitting}
-use Rattle.step_words.specs.Seats.{Seated, Free, latch_at}
+use Rattle.step_words.specs.Seats.{Seated, Free}
 use Rattle.step_state.specs.Holding.{HasLocks}
-use Rattle.step_state.specs.Posed.{FitsGrip, lacks_course, lacks_work, is_making, IsOnCourse, IsDraftOn, IsEditOn, AreClaimsOf, IsPosed}
-use Rattle.step_state.specs.Own.{IsSeated, page_at, is_gone, is_between}
+use Rattle.step_state.specs.Posed.{FitsGrip, lacks_course, lacks_work, is_making, IsOnCourse, IsDraftOn, IsEditOn, IsPosed}
+use Rattle.step_state.specs.Own.{IsSeated, page_at, is_gone}
 use Rattle.safe_write.specs.Changing.{next_write, stage_after, course_after, point_after, seat_after}
 
 pub some_same : {T : Type 0} (a b : T) → Some a ≡ Some b → a ≡ b

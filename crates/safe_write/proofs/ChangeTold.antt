@@ -1,6 +1,6 @@
 -- What a change leaves where the files tell.
-use Rattle.std.proofs.Common.{◌≡◌, ◌≢◌, ℕ, zero, suc, ◌+◌, ◌<◌, ◌≤◌, Bool, true, false, cond, List, [], ◌∷◌, ◌++◌, length, refl, ap, sym, subst, ◌∙◌, inl, inr, arith}
-use Rattle.std.specs.Prelude.{◌⊎◌, Some}
+use Rattle.std.proofs.Common.{◌≡◌, ◌≢◌, ℕ, ◌+◌, Bool, false, List, [], refl, ap, sym, subst, ◌∙◌, inr, arith}
+use Rattle.std.specs.Prelude.{Some}
 use Rattle.page_base.specs.declared.numbers.PageId.{PageId}
 use Rattle.page_base.specs.Slots.{with_slot}
 use Rattle.plain_model.specs.Meaning.{change_and_reply}
@@ -132,7 +132,7 @@ module _ (e s : State) (k : ℕ) (safe : Safe e) (d : DoesChange e s k) (ds : Li
     waits = told.waits;
     goes = go_pushed (works e k) (alone_of e k) (record_of (slots_at e) (next_write d.course d.draft)) was_there (inr (has_room e s k safe d ds content)) told.goes;
     sized = sized_more (works e k) (record_of (slots_at e) (next_write d.course d.draft)) told.sized (size_kept e s k safe d ds content);
-    unwound = λ t. spread_pushed (counts e.pages) (works e k) (alone_of e k) (record_of (slots_at e) (next_write d.course d.draft)) was_there (spread_now e s k safe d ds content) (told.unwound t);
+    unwound = spread_pushed (counts e.pages) (works e k) (alone_of e k) (record_of (slots_at e) (next_write d.course d.draft)) was_there (spread_now e s k safe d ds content) told.unwound;
     back = λ f. pushed (writes (lock_at e k)) (works e k) (alone_of e k) (record_of (slots_at e) (next_write d.course d.draft)) was_there (inr (has_room e s k safe d ds content)) (lies_now e s k safe d ds content f (record_of (slots_at e) (next_write d.course d.draft)) refl) (told.back f);
   }
 

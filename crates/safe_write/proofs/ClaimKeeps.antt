@@ -1,6 +1,6 @@
 -- A claim leaves to others what it owes them, and shows the rest.
-use Rattle.std.proofs.Common.{◌≡◌, ◌≢◌, ℕ, ◌+◌, Bool, true, false, cond, List, [], ◌∷◌, ◌++◌, refl, ap, sym, subst, ◌∙◌, inl, inr, arith}
-use Rattle.std.specs.Prelude.{Option, Some, None}
+use Rattle.std.proofs.Common.{◌≡◌, ℕ, ◌+◌, false, cond, [], ◌∷◌, ◌++◌, refl, ap, arith}
+use Rattle.std.specs.Prelude.{Some}
 use Rattle.page_base.specs.declared.numbers.PageId.{PageId}
 use Rattle.page_base.specs.Pages.{is_page}
 use Rattle.latch_book.specs.Latches.{latch_of}
@@ -10,9 +10,8 @@ use Rattle.snap_pages.proofs.PinLemmas.{count_on_push}
 use Rattle.snap_pages.specs.Shown.{counts, pins}
 use Rattle.alloc_pages.specs.Spots.{spot_of}
 use Rattle.page_tables.specs.Writes.{claim}
-use Rattle.step_words.specs.declared.point.Point.{Point}
 use Rattle.step_words.specs.Seats.{Seated}
-use Rattle.step_state.specs.State.{State, IsSession, sess, seat, machine, slots_at}
+use Rattle.step_state.specs.State.{State, sess, seat, slots_at}
 use Rattle.step_state.specs.Holding.{lock_at}
 use Rattle.step_state.specs.Snapshots.{page_read}
 use Rattle.step_state.specs.Posed.{IsRecordOf}
@@ -20,8 +19,8 @@ use Rattle.step_state.specs.Own.{IsSafeSession, is_between, is_gone}
 use Rattle.step_state.specs.Whole.{grip_pin, gathered_on, seat_pins}
 use Rattle.step_state.specs.Safe.{Safe}
 use Rattle.step_state.specs.Steps.{Steps, Quietly}
-use Rattle.safe_write.specs.Setting.{record_of, SetsPage}
-use Rattle.safe_write.specs.Claiming.{course_then, point_then, seat_then, DoesClaim}
+use Rattle.safe_write.specs.Setting.{record_of}
+use Rattle.safe_write.specs.Claiming.{seat_then, DoesClaim}
 use Rattle.safe_write.proofs.ClaimSeat.{at_then, seated_then}
 use Rattle.safe_write.proofs.ClaimTold.{lock_there, own_told, others, settled_now}
 use Rattle.safe_write.proofs.SetWhole.{guards, whole_kept, beside_now, in_step_now, session_now}

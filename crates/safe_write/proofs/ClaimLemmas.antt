@@ -1,6 +1,6 @@
 -- Pages that were claimed are owned, and a free page isn't one of them.
-use Rattle.std.proofs.Common.{◌≡◌, ◌≢◌, ℕ, zero, suc, ◌+◌, ◌<◌, ◌≤◌, Bool, true, false, ◌==◌, ◌&&◌, ◌||◌, List, [], ◌∷◌, ◌++◌, length, drop, refl, ap, sym, subst, ◌∙◌, inl, inr, arith}
-use Rattle.std.specs.Prelude.{◌⊎◌, slice_index_or}
+use Rattle.std.proofs.Common.{◌≡◌, ◌≢◌, ℕ, zero, suc, ◌+◌, ◌<◌, false, ◌==◌, ◌&&◌, List, [], ◌∷◌, length, drop, refl, ap, sym, ◌∙◌, inl, inr, arith}
+use Rattle.std.specs.Prelude.{slice_index_or}
 use Rattle.std.specs.List.{AllByRecursion}
 use Rattle.std.proofs.lemmas.Bool.{cases_Bool, and_parts, eqb-true, or_cases}
 use Rattle.page_base.specs.declared.numbers.PageId.{PageId}
@@ -12,10 +12,9 @@ use Rattle.alloc_pages.specs.Spots.{spot_of}
 use Rattle.alloc_pages.proofs.OwnerLemmas.{owner_in-owner_bytes, spots_apart}
 use Rattle.rec_log.specs.Records.{Record}
 use Rattle.rec_log.specs.Undone.{undone}
-use Rattle.page_tables.specs.Writes.{claim}
 use Rattle.open_tables.specs.Names.{names}
 use Rattle.open_commits.proofs.WithinLemmas.{differ, unnamed}
-use Rattle.step_state.specs.Posed.{IsRecordOf, AreClaimsOf}
+use Rattle.step_state.specs.Posed.{AreClaimsOf}
 use Rattle.step_state.specs.Told.{GoBack, DifferAll}
 
 -- no record of claims names the spot of a page that isn't claimed

@@ -1,5 +1,5 @@
 -- The session of a claim by itself.
-use Rattle.std.proofs.Common.{◌≡◌, ◌≢◌, ℕ, zero, suc, ◌+◌, ◌-◌, ◌<◌, ◌≤◌, Bool, true, false, cond, ◌==◌, List, [], ◌∷◌, ◌++◌, length, drop, refl, ap, sym, subst, ◌∙◌, inl, inr, arith}
+use Rattle.std.proofs.Common.{◌≡◌, ◌≢◌, ℕ, suc, ◌+◌, ◌-◌, ◌<◌, Bool, true, false, List, [], ◌∷◌, ◌++◌, length, drop, refl, ap, sym, subst, ◌∙◌, inl, inr, arith}
 use Rattle.std.specs.Prelude.{◌⊎◌, Option, Some, None, slice_index_or}
 use Rattle.std.specs.List.{AllByRecursion}
 use Rattle.std.proofs.lemmas.Bool.{cases_eq}
@@ -23,8 +23,8 @@ use Rattle.step_words.specs.Seats.{Seated, Free}
 use Rattle.step_words.proofs.TakenLemmas.{drop_next}
 use Rattle.step_state.specs.Holding.{HasLocks}
 use Rattle.step_state.specs.Posed.{FitsGrip, lacks_course, lacks_work, is_making, IsOnCourse, IsDraftOn, IsRecordOf, AreClaimsOf, IsPosed}
-use Rattle.step_state.specs.Own.{IsSeated, page_at, is_gone}
-use Rattle.safe_write.specs.Changing.{next_write, stage_after, point_after}
+use Rattle.step_state.specs.Own.{IsSeated, page_at}
+use Rattle.safe_write.specs.Changing.{next_write}
 use Rattle.safe_write.specs.Claiming.{stage_then, course_then, point_then, seat_then}
 use Rattle.safe_write.proofs.ChangeSeat.{some_same, by_point, edit_there}
 
@@ -165,7 +165,7 @@ module _ (files : List ℕ) (x : Seated) (latch : Option Latch) (held : ℕ → 
   there_then : (q : PageId) → page_at (point_then x.sitting (course_then c numbers p) numbers) ≡ Some q → is_there files q ≡ true
   there_then q = at_then (λ t. page_at t ≡ Some q → is_there files q ≡ true) (λ e. cc) (λ e. cc)
       (λ d later none is e. ap (is_there files) (sym (some_same (next_write (course_then c numbers p) d).page q e))
-          ∙ edit_there files (course_then c numbers p) d on_then.there (let left = owners_left in let nothing = ap length none in omega (arith, left, nothing, long)) (subst (λ ds. AllByRecursion (IsDraftOn files (length c.owners)) ds) is on.within).0)
+      ∙ edit_there files (course_then c numbers p) d on_then.there (let left = owners_left in let nothing = ap length none in omega (arith, left, nothing, long)) (subst (λ ds. AllByRecursion (IsDraftOn files (length c.owners)) ds) is on.within).0)
       (λ n ns is e. cc)
 
   locks_of : (d : Course) → Some (course_then c numbers p) ≡ Some d → d.at ≡ Source → HasLocks held d

@@ -1,47 +1,44 @@
 -- What a claim leaves where the files tell.
-use Rattle.std.proofs.Common.{◌≡◌, ◌≢◌, ℕ, zero, suc, ◌+◌, ◌-◌, ◌%◌, ◌<◌, ◌≤◌, Bool, true, false, cond, List, [], ◌∷◌, ◌++◌, length, drop, map, refl, ap, sym, subst, ◌∙◌, inl, inr, arith}
-use Rattle.std.specs.Prelude.{◌⊎◌, Option, Some, None, slice_index_or}
+use Rattle.std.proofs.Common.{◌≡◌, ◌≢◌, ℕ, zero, suc, ◌+◌, ◌-◌, ◌%◌, ◌<◌, Bool, true, false, List, [], ◌∷◌, ◌++◌, length, drop, refl, ap, sym, subst, ◌∙◌, inl, inr, arith}
+use Rattle.std.specs.Prelude.{Some, None, slice_index_or}
 use Rattle.std.specs.List.{AllByRecursion}
 use Rattle.std.proofs.lemmas.Bool.{cases_Bool, cases_eq, eq-eqb, ne_eqb}
 use Rattle.std.proofs.lemmas.List.{length-append, get_or_append_left}
 use Rattle.std.proofs.Math.Seq.{get_or-append_seam}
 use Rattle.page_base.specs.declared.limits.TheConstants.{MAX_SLOTS}
-use Rattle.page_base.specs.declared.numbers.Mode.{Mode}
 use Rattle.page_base.specs.declared.numbers.PageId.{PageId}
 use Rattle.page_base.specs.Slots.{Slots, with_slot}
 use Rattle.page_fmt.specs.Content.{content}
 use Rattle.plain_model.specs.Meaning.{change_and_reply}
-use Rattle.plain_model.specs.State.{Plain, session, committed, see}
+use Rattle.plain_model.specs.State.{session, see}
 use Rattle.plain_model.specs.Tables.{apply}
 use Rattle.rec_log.specs.Records.{Record}
-use Rattle.snap_pages.specs.Shown.{Shown, counts, img}
+use Rattle.snap_pages.specs.Shown.{counts, img}
 use Rattle.sys_cat.specs.declared.desc.TableDesc.{TableDesc}
 use Rattle.alloc_pages.specs.Owners.{owner_in, page_owner, owner_bytes}
 use Rattle.alloc_pages.specs.Spots.{spot_of}
-use Rattle.alloc_pages.proofs.OwnerLemmas.{owner_in-owner_bytes, page_owner-same, page_owner-other}
+use Rattle.alloc_pages.proofs.OwnerLemmas.{page_owner-same, page_owner-other}
 use Rattle.page_tables.specs.Bases.{IsBase}
 use Rattle.page_tables.specs.Claims.{Claimable}
 use Rattle.page_tables.specs.Mine.{written, is_of, IsClaim, MayWriteAll, AreSpread}
 use Rattle.page_tables.specs.Owners.{is_there}
 use Rattle.page_tables.specs.Sheets.{sheets}
-use Rattle.page_tables.specs.Writes.{Write, claim, done}
+use Rattle.page_tables.specs.Writes.{claim, done}
 use Rattle.page_tables.proofs.MineLemmas.{every_spot, spot_there, one_moves}
 use Rattle.open_work.specs.Moves.{Changes}
-use Rattle.open_work.specs.Open.{all, with_part, settled, alone, before}
+use Rattle.open_work.specs.Open.{all, with_part}
 use Rattle.open_work.proofs.OpenLemmas.{settled_same, alone_other, alone_own, before_same}
-use Rattle.open_tables.specs.Back.{Back}
 use Rattle.open_tables.specs.Names.{names, AreClaims}
 use Rattle.open_tables.proofs.BackLemmas.{pushed, back_one}
 use Rattle.open_commits.proofs.AheadLemmas.{lacking}
 use Rattle.open_commits.proofs.ApartLemmas.{own_part, other_part, untouched, claims_all}
 use Rattle.open_commits.proofs.WithinLemmas.{differ}
-use Rattle.step_words.specs.declared.point.Point.{Point}
-use Rattle.step_words.specs.declared.point.Point.TheVariants.{Claim, Take}
+use Rattle.step_words.specs.declared.point.Point.TheVariants.{Take}
 use Rattle.step_words.specs.declared.stage.DbKind.TheVariants.{Source, Snap}
 use Rattle.step_words.specs.declared.stage.Stage.TheVariants.{Claim as Claiming}
-use Rattle.step_words.specs.Courses.{Course, Draft, is_planned, is_past_all}
+use Rattle.step_words.specs.Courses.{Course, is_planned, is_past_all}
 use Rattle.step_words.specs.Coming.{coming, claims_of, claims_left, edits_left}
-use Rattle.step_words.specs.Sittings.{Sitting, stmt_at, undoes_all}
+use Rattle.step_words.specs.Sittings.{stmt_at, undoes_all}
 use Rattle.step_words.specs.Seats.{Seated}
 use Rattle.step_words.proofs.TakenLemmas.{claim_moves, drop_next}
 use Rattle.plain_steps.specs.Modes.{suffices}
@@ -54,8 +51,8 @@ use Rattle.step_state.specs.Posed.{IsOnCourse, IsRecordOf}
 use Rattle.step_state.specs.Told.{AreSeen, SeesSource, DifferAll, IsToldSource, IsToldReading, IsTold}
 use Rattle.step_state.specs.Safe.{Safe, IsContent}
 use Rattle.step_state.specs.Steps.{LeavesQuiet}
-use Rattle.step_state.proofs.StandingLemmas.{is_many, nothing_beside, nobody_all, claims_beside, session_cases, no_records, lie}
-use Rattle.safe_write.specs.Setting.{record_of, SetsPage}
+use Rattle.step_state.proofs.StandingLemmas.{is_many, nothing_beside, nobody_all, claims_beside, lie}
+use Rattle.safe_write.specs.Setting.{record_of}
 use Rattle.safe_write.specs.Claiming.{course_then, point_then, seat_then, DoesClaim}
 use Rattle.safe_write.proofs.ChangeSeat.{some_same}
 use Rattle.safe_write.proofs.ClaimLemmas.{claimed_is_owned, go_drop}
@@ -293,7 +290,7 @@ module _ (e s : State) (k : ℕ) (safe : Safe e) (d : DoesClaim e s k) where
       waits = told.waits;
       goes = go_pushed (works e k) (alone_of e k) its_record as_it_stands (inl size) told.goes;
       sized = sized_more (works e k) its_record told.sized (λ every. size);
-      unwound = λ t. spread_pushed (counts e.pages) (works e k) (alone_of e k) its_record as_it_stands spread_now (told.unwound t);
+      unwound = spread_pushed (counts e.pages) (works e k) (alone_of e k) its_record as_it_stands spread_now told.unwound;
       back = λ f. pushed (writes (lock_at e k)) (works e k) (alone_of e k) its_record as_it_stands (inl size)
           (inr (d.target, refl, refl, ap (writes (lock_at e k)) owned ∙ (given_left f).0.1, free_now)) (told.back f);
     }

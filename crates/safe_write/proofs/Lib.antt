@@ -8,3 +8,7 @@ pub mod ClaimSeat
 pub mod ClaimLemmas
 pub mod ClaimTold
 pub mod ClaimKeeps
+pub mod BackSeat
+pub mod BackLemmas
+pub mod BackTold
+pub mod BackKeeps

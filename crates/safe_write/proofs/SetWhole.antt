@@ -1,6 +1,6 @@
 -- What a step that writes one page leaves of the whole, and of others, whatever the files tell.
-use Rattle.std.proofs.Common.{◌-◌, ◌≡◌, ◌≢◌, ℕ, zero, suc, ◌+◌, ◌<◌, ◌≤◌, Bool, true, false, cond, List, [], ◌∷◌, ◌++◌, length, refl, ap, sym, subst, ◌∙◌, inl, inr, arith}
-use Rattle.std.specs.Prelude.{◌⊎◌, Option, Some, None, slice_index_or, unwrap_or}
+use Rattle.std.proofs.Common.{◌-◌, ◌≡◌, ◌≢◌, ℕ, ◌+◌, ◌≤◌, false, cond, List, [], length, refl, ap, sym, subst, ◌∙◌, inl, arith}
+use Rattle.std.specs.Prelude.{Option, Some, None, slice_index_or, unwrap_or}
 use Rattle.page_base.specs.declared.numbers.PageId.{PageId}
 use Rattle.page_base.specs.declared.numbers.SessNo.{SessNo}
 use Rattle.page_base.proofs.PagesLemmas.{is_page-other}

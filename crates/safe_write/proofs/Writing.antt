@@ -1,5 +1,5 @@
 -- The next edit as a write on pages: that it goes, is on a page of the session's own, and which others' records stand beside it.
-use Rattle.std.proofs.Common.{◌≡◌, ◌≢◌, ℕ, zero, suc, ◌+◌, ◌-◌, ◌%◌, ◌<◌, ◌≤◌, Bool, true, false, List, [], ◌∷◌, ◌++◌, length, drop, map, refl, ap, sym, subst, ◌∙◌, inl, inr, arith}
+use Rattle.std.proofs.Common.{◌≡◌, ◌≢◌, ℕ, ◌%◌, ◌<◌, ◌≤◌, true, false, List, [], ◌∷◌, ◌++◌, length, map, refl, ap, sym, subst, ◌∙◌, inl, inr, arith}
 use Rattle.std.specs.Prelude.{◌⊎◌, Option, Some, None, slice_index_or}
 use Rattle.std.specs.List.{AllByRecursion}
 use Rattle.std.proofs.lemmas.Bool.{cases_Bool, cases_eq, cases_lt}
@@ -11,14 +11,13 @@ use Rattle.page_base.specs.Slots.{Slots, with_slot}
 use Rattle.page_base.proofs.SlotsLemmas.{with_slot-same}
 use Rattle.page_fmt.specs.Spelling.{used}
 use Rattle.alloc_pages.specs.Owners.{page_owner}
-use Rattle.alloc_pages.specs.Spots.{spot_of}
 use Rattle.alloc_pages.proofs.OwnerLemmas.{page_owner-page}
 use Rattle.plain_model.specs.State.{see}
 use Rattle.plain_steps.specs.Modes.{suffices}
 use Rattle.plain_steps.specs.Phases.{first_mode}
 use Rattle.rec_log.specs.Records.{Record}
 use Rattle.rec_log.specs.Undone.{undone}
-use Rattle.rec_log.proofs.UndoneLemmas.{undone-append, undone-push}
+use Rattle.rec_log.proofs.UndoneLemmas.{undone-push}
 use Rattle.snap_pages.specs.Shown.{counts, img}
 use Rattle.sys_cat.specs.declared.desc.TableDesc.{TableDesc}
 use Rattle.table_walk.specs.declared.plan.Spot.{Spot}
@@ -26,34 +25,34 @@ use Rattle.table_walk.specs.declared.plan.Spot.TheVariants.{Old, New}
 use Rattle.table_walk.specs.Addresses.{IsTarget}
 use Rattle.table_walk.specs.Plans.{place, named}
 use Rattle.page_tables.specs.Claims.{Claimable}
-use Rattle.page_tables.specs.Mine.{written, is_of, MayWrite, MayWriteAll, AreSpread}
+use Rattle.page_tables.specs.Mine.{written, MayWrite, MayWriteAll, AreSpread}
 use Rattle.page_tables.specs.Owners.{is_there, span, IsAllocPage, IsSpread}
 use Rattle.page_tables.specs.Sheets.{sheets}
 use Rattle.page_tables.specs.Writes.{Write, done}
 use Rattle.page_tables.proofs.MineLemmas.{every_spot, one_moves}
 use Rattle.page_tables.proofs.SheetLemmas.{sheet_same, slot_of_sheet}
-use Rattle.open_work.specs.Open.{all, with_part, alone}
+use Rattle.open_work.specs.Open.{all, with_part}
 use Rattle.open_tables.specs.Back.{FitsBack, LiesIn}
 use Rattle.open_tables.specs.Names.{names}
-use Rattle.open_commits.proofs.WithinLemmas.{differ, unnamed}
+use Rattle.open_commits.proofs.WithinLemmas.{differ}
 use Rattle.open_commits.proofs.StandLemmas.{written_now}
 use Rattle.open_commits.proofs.ApartLemmas.{own_part, other_part, untouched, claims_all}
 use Rattle.step_words.specs.declared.stage.DbKind.TheVariants.{Source}
 use Rattle.step_words.specs.Courses.{Course, Draft, Plain, Root, is_planned, is_past_all}
-use Rattle.step_words.specs.Coming.{coming, draft_write, claims_left, edits_left, taken_at}
+use Rattle.step_words.specs.Coming.{coming, draft_write, edits_left, taken_at}
 use Rattle.step_words.proofs.TakenLemmas.{edit_moves, none_left}
-use Rattle.step_state.specs.State.{State, IsSession, sess, seat, works, many, machine, slots_at, alone_of}
+use Rattle.step_state.specs.State.{State, IsSession, seat, works, many, machine, slots_at, alone_of}
 use Rattle.step_state.specs.Holding.{holds_all, writes, lock_at}
 use Rattle.step_state.specs.Posed.{IsOnCourse, IsDraftOn, IsEditOn, NamesBelow}
 use Rattle.step_state.specs.Own.{IsSafeSession}
 use Rattle.step_state.specs.Plans.{AreOnOwn, SpreadAll, IsPlanned}
-use Rattle.step_state.specs.Told.{IsToldSource, AreSized, SpreadBack, GoBack}
+use Rattle.step_state.specs.Told.{AreSized, SpreadBack, GoBack}
 use Rattle.step_state.specs.Safe.{Safe, IsContent}
 use Rattle.step_state.proofs.PageLemmas.{page_is_small}
 use Rattle.step_state.proofs.StandingLemmas.{nothing_beside, nobody_all, page_apart, claims_beside, tells_all}
 use Rattle.safe_write.specs.Setting.{record_of}
 use Rattle.safe_write.specs.Changing.{next_write, course_after, DoesChange}
-use Rattle.safe_write.proofs.ChangeSeat.{editing, all_taken, edit_there}
+use Rattle.safe_write.proofs.ChangeSeat.{editing, all_taken}
 
 -- EDITS, WHERE THE SAME PAGES ARE CLAIMED
 

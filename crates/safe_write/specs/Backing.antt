@@ -1,9 +1,11 @@
 -- The step that takes a session's last record back.
 use Rattle.std.specs.Prelude.{ℕ, ◌≡◌, ◌+◌, ◌==◌, if◌then◌else◌, Bool, true, List, [], ◌∷◌, ◌++◌, length, Option, Some, None}
-use Rattle.page_base.specs.declared.numbers.PageId.{PageId}
 use Rattle.latch_book.specs.declared.latch.LatchMode.TheVariants.{Ex}
 use Rattle.plain_model.specs.declared.stmt.Stmt.{Stmt}
-use Rattle.rec_log.specs.Records.{Record}
+use Rattle.page_fmt.specs.Content.{IsPage}
+use Rattle.rec_log.specs.Records.{Record, IsRecord}
+use Rattle.snap_pages.specs.Shown.{counts, img}
+use Rattle.page_tables.specs.Owners.{is_there}
 use Rattle.undo_pass.specs.Backs.{TakesBack}
 use Rattle.step_words.specs.declared.point.Point.{Point}
 use Rattle.step_words.specs.declared.point.Point.TheVariants.{Undo, Say, Leave}
@@ -31,6 +33,10 @@ pub record DoesBack (e s : State) (k : ℕ) : Type 0 where
   pub records : List Record
   pub were : (seat e k).work.recs ≡ records ++ last ∷ []
   pub hold : (seat e k).hold ≡ Latched last.page Ex
+  -- its page is there, and a page of the format: it is in memory
+  pub there : is_there (counts e.pages) last.page ≡ true
+  pub page : IsPage (img e.pages last.page)
+  pub limits : IsRecord last
   -- the record's slot has what stood there before, and its page a pin less
   pub sets : SetsPage e s k last.page (seat_back all (seat e k) records)
   pub back : TakesBack last e.pages s.pages

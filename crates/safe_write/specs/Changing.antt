@@ -1,5 +1,5 @@
 -- The step that does a planned statement's next edit.
-use Rattle.std.specs.Prelude.{ℕ, ◌≡◌, ◌-◌, ◌==◌, if◌then◌else◌, true, List, [], ◌∷◌, ◌++◌, Some, None}
+use Rattle.std.specs.Prelude.{ℕ, ◌≡◌, ◌-◌, ◌==◌, if◌then◌else◌, true, List, [], ◌∷◌, ◌++◌, Some}
 use Rattle.page_base.specs.declared.numbers.PageId.{PageId}
 use Rattle.latch_book.specs.declared.latch.LatchMode.TheVariants.{Ex}
 use Rattle.rec_log.specs.Records.{Record}

@@ -1,5 +1,5 @@
 -- The step that claims a page for a planned statement: the first free page of which an allocation page tells.
-use Rattle.std.specs.Prelude.{ℕ, ◌≡◌, ◌+◌, ◌-◌, ◌==◌, if◌then◌else◌, true, List, [], ◌∷◌, ◌++◌, Some, None, length, drop}
+use Rattle.std.specs.Prelude.{ℕ, ◌≡◌, ◌+◌, ◌-◌, true, List, [], ◌∷◌, ◌++◌, Some, length, drop}
 use Rattle.page_base.specs.declared.numbers.PageId.{PageId}
 use Rattle.page_fmt.specs.Content.{content}
 use Rattle.latch_book.specs.declared.latch.LatchMode.TheVariants.{Ex}
@@ -13,7 +13,7 @@ use Rattle.table_walk.specs.Addresses.{IsTarget}
 use Rattle.page_tables.specs.Owners.{is_there}
 use Rattle.page_tables.specs.Writes.{claim}
 use Rattle.step_words.specs.declared.point.Point.{Point}
-use Rattle.step_words.specs.declared.point.Point.TheVariants.{Claim, Latch, Commit, Say}
+use Rattle.step_words.specs.declared.point.Point.TheVariants.{Claim}
 use Rattle.step_words.specs.declared.stage.Stage.{Stage}
 use Rattle.step_words.specs.declared.stage.Stage.TheVariants.{Claim as Claiming}
 use Rattle.step_words.specs.Courses.{Course, Draft}

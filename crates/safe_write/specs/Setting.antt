@@ -1,10 +1,9 @@
 -- What steps have in common that write one slot of a page: the page changes, the session gives back its latch and goes on.
-use Rattle.std.specs.Prelude.{ℕ, ◌≡◌, List, Some, None}
+use Rattle.std.specs.Prelude.{ℕ, ◌≡◌, None}
 use Rattle.page_base.specs.declared.numbers.PageId.{PageId}
 use Rattle.page_base.specs.Pages.{set_at}
 use Rattle.page_base.specs.Slots.{Slots}
 use Rattle.page_fmt.specs.Content.{IsPage}
-use Rattle.latch_book.specs.declared.latch.LatchMode.TheVariants.{Ex}
 use Rattle.latch_book.specs.Latches.{without_latch}
 use Rattle.rec_log.specs.Records.{Record}
 use Rattle.snap_pages.specs.Dues.{IsPushed}
@@ -12,7 +11,7 @@ use Rattle.snap_pages.specs.Shown.{img}
 use Rattle.snap_pages.specs.Steps.{SameSnaps, SamePlaces}
 use Rattle.snap_pages.specs.Views.{KeepsViews}
 use Rattle.page_tables.specs.Writes.{Write}
-use Rattle.step_words.specs.Seats.{Seated, Grip, Free, Latched, Fetched, with_seat}
+use Rattle.step_words.specs.Seats.{Seated, with_seat}
 use Rattle.step_state.specs.State.{State, IsSession, sess, seat}
 use Rattle.step_state.specs.Snapshots.{HoldsEx}
 

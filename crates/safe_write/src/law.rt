@@ -6,6 +6,7 @@ ghost use Rattle.step_state.specs.State.{State};
 ghost use Rattle.step_state.specs.Steps.{Steps};
 ghost use Rattle.safe_write.specs.Changing.{DoesChange};
 ghost use Rattle.safe_write.specs.Claiming.{DoesClaim};
+ghost use Rattle.safe_write.specs.Backing.{DoesBack};
 
 /// A change of one slot, of a page that every sound snapshot has, with its record, leaves to others what it owes them; so the
 /// engine stays safe.
@@ -18,4 +19,10 @@ pub fn a_change_keeps_the_engine_safe()
 pub fn a_claim_keeps_the_engine_safe()
     ensures steps { (e s : State) (k : ℕ) → Safe e → DoesClaim e s k → Steps e s k }
     ensures safe { (e s : State) (k : ℕ) → Safe e → DoesClaim e s k → Safe s }
+{}
+
+/// And so does a record that is taken back: the last one of a session, of its statement or of its transaction.
+pub fn a_record_taken_back_keeps_the_engine_safe()
+    ensures steps { (e s : State) (k : ℕ) → Safe e → DoesBack e s k → Steps e s k }
+    ensures safe { (e s : State) (k : ℕ) → Safe e → DoesBack e s k → Safe s }
 {}

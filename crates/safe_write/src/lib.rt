@@ -3,4 +3,7 @@
 
 mod law;
 
-pub use law::{a_change_keeps_the_engine_safe, a_claim_keeps_the_engine_safe};
+pub use law::{
+    a_change_keeps_the_engine_safe, a_claim_keeps_the_engine_safe,
+    a_record_taken_back_keeps_the_engine_safe,
+};

@@ -101,7 +101,7 @@ pub record IsToldSource (files : List ℕ) (ds : List TableDesc) (x : Seated) (h
   -- its records can be taken back, and lie on pages of its own unless it holds all
   pub goes : GoBack x.work.recs own
   pub sized : AreSized x.work.recs
-  pub unwound : holds_all held ≡ true → SpreadBack files x.work.recs own
+  pub unwound : SpreadBack files x.work.recs own
   pub back : holds_all held ≡ false → Back (writes held) x.work.recs own
 
 -- of a session and the snapshot that is its database
