@@ -9,6 +9,7 @@ use Rattle.table_walk.specs.Leaves.{ByKeys}
 use Rattle.table_walk.specs.Plans.{cut_all, put_all}
 use Rattle.tree_laws.specs.Keys.{Key}
 use Rattle.tree_laws.specs.Parts.{fill}
+pub use Rattle.tree_laws.specs.Paths.{IsOnPath, CutPaths, PutPaths}
 use Rattle.tree_laws.specs.Puts.{rows_in_order, row_size, leaf_of_rows, first_key, with_row, in_key_order, put_entries, entry_for, lay, with_sheet, rise, rise_with, through, put_below, put_under, put, level_in, cut_at, cut_below, cut, cut_keys, put_rows}
 use Rattle.tree_laws.specs.Sheets.{Entry, Sheet, Stand, Grown, fits, leaf_in, entries_in}
 use Rattle.tree_laws.specs.Sheets.Sheet.{Rows, Inner}
@@ -23,19 +24,6 @@ use Rattle.tree_laws.proofs.Times.{times}
 
 abbrev Rs : Type 0
 Rs = List (List Value)
-
--- the path of a key, from a root on, lies on pages that are looked at
-abbrev pub IsOnPath : (PageId → Bool) → PageId → Key → Stand → Type 0
-IsOnPath R root key s = OnPath R s.sheets key (level_in (s.sheets root)) root
-
--- the path of each key, as it is when its turn comes
-abbrev pub CutPaths : List Column → (PageId → Bool) → PageId → List Key → Stand → Type 0
-CutPaths cols R root [] s = Unit {0}
-CutPaths cols R root (k ∷ ks) s = IsOnPath R root k s × CutPaths cols R root ks (cut cols root k s)
-
-abbrev pub PutPaths : List Column → (PageId → Bool) → (ℕ → PageId) → PageId → Rs → Stand → Type 0
-PutPaths cols R claimed root [] s = Unit {0}
-PutPaths cols R claimed root (r ∷ rs) s = IsOnPath R root (key_of cols r) s × PutPaths cols R claimed root rs (put cols claimed root r s)
 
 cut_below_claims : (cols : List Column) (k : Key) (n : ℕ) (p : PageId) (s : Stand) → (cut_below cols k n p s).claims ≡ s.claims
 cut_below_claims cols k zero p s = refl

@@ -30,3 +30,4 @@ pub mod TableTyped
 pub mod TreeWalked
 pub mod TableTrees
 pub mod Totals
+pub mod Looked

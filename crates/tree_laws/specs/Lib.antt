@@ -9,3 +9,4 @@ pub mod Puts
 pub mod Trees
 pub mod Typed
 pub mod Reads
+pub mod Paths

@@ -1,0 +1,4 @@
+pub mod LeafLemmas
+pub mod PartLemmas
+pub mod OrderLemmas
+pub mod ScanLemmas
