@@ -13,9 +13,9 @@ use page_fmt::Seen;
 use std::alloc::Global;
 use table_walk::{Layout, SeenRefusal, Visit, is_leaf, names_none, page_at};
 
-// The layout of a heap.
+/// The layout of a heap, for who walks a heap page by page.
 #[derive(Clone, Copy, Debug, PartialEq, Eq)]
-pub(crate) struct Heap;
+pub struct Heap;
 
 // The leaves that a root page names.
 fn leaf_visits(

@@ -18,7 +18,7 @@ mod tests;
 mod turns;
 
 pub use law::{heaps_keep_by_keys, placed_rows_are_the_rows};
-pub use layout::new_root;
+pub use layout::{Heap, new_root};
 pub use planning::plan;
 pub use reading::{rows, wants};
 pub use table_walk::may_put;

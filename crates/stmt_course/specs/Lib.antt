@@ -1,0 +1,4 @@
+pub mod Knowing
+pub mod Keeping
+pub mod Bringing
+pub mod Planning

@@ -1,0 +1,6 @@
+pub mod ReadLemmas
+pub mod CourseLemmas
+pub mod FeedLemmas
+pub mod PlanLemmas
+pub mod WriteLemmas
+pub mod NeedLemmas

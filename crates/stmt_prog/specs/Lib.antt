@@ -1,0 +1,9 @@
+pub mod Refusing
+pub mod Reading
+pub mod Heads
+pub mod States
+pub mod Needs
+pub mod Feeding
+pub mod Writing
+pub mod Queues
+pub mod Ending

@@ -1,0 +1,3 @@
+//! The layout of the tables that statements read and change: the heap.
+
+pub(crate) use table_heap::{plan, rows};
