@@ -107,6 +107,7 @@ module _ (files : List ℕ) (x : Seated) (latch : Option Latch) (held : ℕ → 
   on_after = record {
     lent = on.lent;
     tables = on.tables;
+    database = on.database;
     emptied = λ t. on.emptied planned_now;
     unasked = λ f. absurd (let wrong : true ≡ false = sym (past_all_after drafts) ∙ f in cc);
     unread = λ f. absurd (let wrong : true ≡ false = sym (past_table_after drafts) ∙ f in cc);

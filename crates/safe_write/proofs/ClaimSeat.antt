@@ -83,6 +83,7 @@ module _ (files : List ℕ) (x : Seated) (latch : Option Latch) (held : ℕ → 
   on_then = record {
     lent = on.lent;
     tables = on.tables;
+    database = on.database;
     emptied = λ t. on.emptied planned_now;
     unasked = λ f. absurd (let wrong : true ≡ false = sym (by_stage (λ t. is_past_all t ≡ true) numbers c.edits refl refl (λ n d. refl)) ∙ f in cc);
     unread = λ f. absurd (let wrong : true ≡ false = sym (by_stage (λ t. is_past_table t ≡ true) numbers c.edits refl refl (λ n d. refl)) ∙ f in cc);

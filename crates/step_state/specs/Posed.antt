@@ -14,6 +14,8 @@ use Rattle.page_tables.specs.Writes.{Write, claim}
 use Rattle.alloc_pages.specs.Spots.{spot_of}
 use Rattle.step_words.specs.declared.point.Point.{Point}
 use Rattle.step_words.specs.declared.point.Point.TheVariants.{Start, Lock, Latch, Look, Fetch, Take, Claim, Change, Undo, Cut, Heal, Gather, Swap, Commit, Say, Leave, Gone}
+use Rattle.step_words.specs.declared.stage.DbKind.{DbKind}
+use Rattle.step_words.specs.declared.stage.DbKind.TheVariants.{Master, Source, Snap}
 use Rattle.step_words.specs.declared.stage.Stage.TheVariants.{Claim as Claiming, Edit as Editing, End}
 use Rattle.step_words.specs.Courses.{Course, Draft, Plain, Root, is_planned, is_past_all, is_past_table}
 use Rattle.step_words.specs.Coming.{draft_write, taken_at}
@@ -77,11 +79,19 @@ abbrev pub IsDraftOn : List ℕ → ℕ → Draft → Type 0
 IsDraftOn files n (Plain e) = IsEditOn files n e.spot × NamesBelow n e.names
 IsDraftOn files n (Root e d new) = IsEditOn files n e.spot × (new < n)
 
+-- a course in a snapshot is of the one that is the session's database
+abbrev pub IsIn : DbKind → Option ℕ → Type 0
+IsIn Master within = within ≡ None
+IsIn Source within = within ≡ None
+IsIn Snap within = (cut : ℕ) × (within ≡ Some cut)
+
 -- the course of a session: of its present statement, which is about tables; what it has read it forgets with the plan; the
 -- pages that it has claimed may be named; there is room for the records of what is to come
 pub record IsOnCourse (files : List ℕ) (x : Seated) (c : Course) : Type 0 where
   pub lent : stmt_at x.sitting ≡ Some c.stmt
   pub tables : is_of_tables c.stmt ≡ true
+  -- in a snapshot the session knows which
+  pub database : IsIn c.at x.sitting.within
   pub emptied : is_planned c.stage ≡ true → (c.base ≡ []) × (c.seen ≡ [])
   -- it reads table 0 under the lock on that, and its own table under the lock on this
   pub unasked : is_past_all c.stage ≡ false → (c.base ≡ []) × (c.desc ≡ None)

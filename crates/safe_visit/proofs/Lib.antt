@@ -1,0 +1,2 @@
+pub mod SeatMoves
+pub mod LatchKeeps

@@ -1,0 +1,14 @@
+//! That steps which visit pages keep the invariant, as functions whose contracts say it.
+
+ghost use Rattle.std.specs.Prelude.{ℕ};
+ghost use Rattle.step_state.specs.Safe.{Safe};
+ghost use Rattle.step_state.specs.State.{State};
+ghost use Rattle.step_state.specs.Steps.{Steps};
+ghost use Rattle.safe_visit.specs.Latching.{DoesLatch};
+
+/// A latch that is taken where none is in the way, whatever it is needed for, leaves to others what it owes them; so the engine
+/// stays safe.
+pub fn a_latch_keeps_the_engine_safe()
+    ensures steps { (e s : State) (k : ℕ) → Safe e → DoesLatch e s k → Steps e s k }
+    ensures safe { (e s : State) (k : ℕ) → Safe e → DoesLatch e s k → Safe s }
+{}
