@@ -1,13 +1,11 @@
 -- A latch that is taken leaves to others what it owes them, and shows the rest.
-use Rattle.std.proofs.Common.{◌≡◌, ◌≢◌, ℕ, zero, suc, ◌+◌, ◌-◌, ◌%◌, ◌<◌, ◌≤◌, Bool, true, false, List, [], ◌∷◌, ◌++◌, length, refl, ap, sym, subst, ◌∙◌, inl, inr, arith}
-use Rattle.std.specs.Prelude.{◌⊎◌, Option, Some, None, option_map, slice_index_or}
+use Rattle.std.proofs.Common.{◌≡◌, ℕ, ◌+◌, ◌-◌, Bool, true, false, List, [], ◌∷◌, ◌++◌, refl, ap, sym, subst, ◌∙◌, inl, inr, arith}
+use Rattle.std.specs.Prelude.{Option, Some, None, option_map, slice_index_or}
 use Rattle.page_base.specs.declared.numbers.Mode.{Mode}
 use Rattle.page_base.specs.declared.numbers.PageId.{PageId}
 use Rattle.page_base.specs.declared.numbers.SessNo.{SessNo}
 use Rattle.page_base.specs.declared.numbers.SnapNo.{SnapNo}
-use Rattle.latch_book.specs.declared.latch.Latch.{Latch}
 use Rattle.latch_book.specs.declared.latch.LatchMode.{LatchMode}
-use Rattle.latch_book.specs.declared.latch.LatchMode.TheVariants.{Sh, Ex}
 use Rattle.latch_book.specs.Latches.{latch_of, with_latch, IsLatchBook}
 use Rattle.latch_book.specs.Latches as latch
 use Rattle.latch_book.proofs.LatchLemmas.{Holds-with_latch, latch_of-with_latch, IsLatchBook-with_latch}
@@ -18,30 +16,27 @@ use Rattle.rec_log.specs.Records.{Record}
 use Rattle.snap_cat.specs.Catalog.{Snap as SnapEntry, snap_at}
 use Rattle.sparse_set.specs.Sparse.{Sparse}
 use Rattle.snap_pages.specs.Owed.{count_on}
-use Rattle.snap_pages.specs.Cuts.{place_of, snap_by, owed_by}
-use Rattle.snap_pages.specs.Shown.{Shown, catalog, count, counts, set_of, IsOpen}
+use Rattle.snap_pages.specs.Shown.{Shown, catalog, counts, set_of}
 use Rattle.snap_pages.proofs.CutLemmas.{place_some, by_place}
 use Rattle.sys_cat.specs.declared.desc.TableDesc.{TableDesc}
-use Rattle.page_tables.specs.Owners.{is_there}
 use Rattle.step_words.specs.declared.point.Point.{Point}
 use Rattle.step_words.specs.declared.point.Point.TheVariants.{Start, Latch as Latching, Look, Fetch, Take, Claim, Change, Undo, Heal, Commit, Say}
-use Rattle.step_words.specs.declared.stage.DbKind.TheVariants.{Source, Snap}
+use Rattle.step_words.specs.declared.stage.DbKind.TheVariants.{Source}
 use Rattle.step_words.specs.declared.stage.Stage.{Stage}
 use Rattle.step_words.specs.declared.stage.Stage.TheVariants.{AskAll, ScanZero, AskTable, Scan, Plan, Claim as Claiming, Edit as Editing, End}
 use Rattle.step_words.specs.Courses.{Course, is_past_all}
 use Rattle.step_words.specs.Sittings.{stmt_at, undoes_all}
 use Rattle.step_words.specs.Seats.{Seated, Grip, Free, Latched}
-use Rattle.step_state.specs.State.{State, IsSession, sess, seat, machine, alone_of, before_of}
-use Rattle.step_state.specs.Holding.{lock_at, HasLocks}
-use Rattle.step_state.specs.Posed.{FitsGrip, lacks_course, lacks_work, is_making, IsIn, IsNextEdit, IsOnCourse, IsUndoing, IsPosed}
+use Rattle.step_state.specs.State.{State, sess, seat, machine, alone_of, before_of}
+use Rattle.step_state.specs.Holding.{lock_at}
+use Rattle.step_state.specs.Posed.{FitsGrip, lacks_course, lacks_work, is_making, IsIn, IsOnCourse, IsPosed}
 use Rattle.step_state.specs.Own.{IsSeated, IsInStep, IsAside, IsSafeSession, page_at, is_gone, is_between}
 use Rattle.step_state.specs.Snapshots.{IsBeside, name_by, page_read}
 use Rattle.step_state.specs.Whole.{grip_pin, gathered_on}
 use Rattle.step_state.specs.Told.{IsToldSource, IsToldReading}
 use Rattle.step_state.specs.Safe.{Safe, IsContent}
 use Rattle.step_state.specs.Steps.{Steps}
-use Rattle.safe_visit.specs.Moving.{MovesSeat}
-use Rattle.safe_visit.specs.Latching.{page_visited, IsLastPage, NeedsLatch, VisitsSource, VisitsSnap, Edits, Claims, Undoes, Heals, seat_latched, DoesLatch}
+use Rattle.safe_visit.specs.Latching.{page_visited, NeedsLatch, VisitsSource, VisitsSnap, Edits, Claims, Undoes, Heals, seat_latched, DoesLatch}
 use Rattle.safe_visit.proofs.SeatMoves.{history, now, held_same, files, seat_moves}
 
 -- whatever is so of the point before and then, each in its case
@@ -89,8 +84,21 @@ module _ (e s : State) (k : ℕ) (safe : Safe e) (d : DoesLatch e s k) where
 
   on_same : (c : Course) → IsOnCourse files_e (seat e k) c → IsOnCourse files_e y c
   on_same c on = record {
-    lent = on.lent; tables = on.tables; database = on.database; emptied = on.emptied; unasked = on.unasked; unread = on.unread; fresh = on.fresh; numbers = on.numbers;
-    taken = on.taken; claimed = on.claimed; targets = on.targets; there = on.there; within = on.within; room = on.room; ended = on.ended;
+    lent = on.lent;
+    tables = on.tables;
+    database = on.database;
+    emptied = on.emptied;
+    unasked = on.unasked;
+    unread = on.unread;
+    fresh = on.fresh;
+    numbers = on.numbers;
+    taken = on.taken;
+    claimed = on.claimed;
+    targets = on.targets;
+    there = on.there;
+    within = on.within;
+    room = on.room;
+    ended = on.ended;
   }
 
   grip_now : FitsGrip d.next (seat e k).sitting.found (Latched d.page d.mode)
@@ -196,13 +204,13 @@ module _ (e s : State) (k : ℕ) (safe : Safe e) (d : DoesLatch e s k) where
       in_snap cut within =
           let named = (me.beside.named cut within).1 in
           by_place e.pages cut
-              (λ n at.
-                  let place = place_some e.pages cut n at in
-                  let only = safe.whole.reverts who snap restores in
-                  let first : n ≡ record { 0 = 0 } = (let zero_is : n.0 ≡ 0 = omega (arith, place.there, only.only) in λ i. record { 0 = zero_is i }) in
-                  let its : name_by e.pages cut ≡ Some (snap_at (catalog e.pages) n).name = ap (λ (o : Option SnapNo). option_map (λ (f : SnapEntry × Sparse). f.0.name) (option_map (λ (m : SnapNo). (snap_at (catalog e.pages) m, set_of e.pages m)) o)) at in
-                  aside.away.1 (some_name (seat e k).sitting.current snap (sym named ∙ its ∙ ap (λ m. Some (snap_at (catalog e.pages) m).name) first ∙ ap (λ m. Some m) only.named)))
-              (λ none. (let wrong : None ≡ Some (seat e k).sitting.current = sym (ap (λ (o : Option SnapNo). option_map (λ (f : SnapEntry × Sparse). f.0.name) (option_map (λ (m : SnapNo). (snap_at (catalog e.pages) m, set_of e.pages m)) o)) none) ∙ named in cc))
+          (λ n at.
+          let place = place_some e.pages cut n at in
+          let only = safe.whole.reverts who snap restores in
+          let first : n ≡ record { 0 = 0 } = (let zero_is : n.0 ≡ 0 = omega (arith, place.there, only.only) in λ i. record { 0 = zero_is i }) in
+          let its : name_by e.pages cut ≡ Some (snap_at (catalog e.pages) n).name = ap (λ (o : Option SnapNo). option_map (λ (f : SnapEntry × Sparse). f.0.name) (option_map (λ (m : SnapNo). (snap_at (catalog e.pages) m, set_of e.pages m)) o)) at in
+          aside.away.1 (some_name (seat e k).sitting.current snap (sym named ∙ its ∙ ap (λ m. Some (snap_at (catalog e.pages) m).name) first ∙ ap (λ m. Some m) only.named)))
+          (λ none. (let wrong : None ≡ Some (seat e k).sitting.current = sym (ap (λ (o : Option SnapNo). option_map (λ (f : SnapEntry × Sparse). f.0.name) (option_map (λ (m : SnapNo). (snap_at (catalog e.pages) m, set_of e.pages m)) o)) none) ∙ named in cc))
 
       by : (mode : LatchMode) (next : Point) → NeedsLatch e.pages (seat e k) d.page mode next → ⊥
       by mode next (VisitsSource c at has source visit) = lock_needed c has source (visits_past c.stage d.page visit) aside.locks

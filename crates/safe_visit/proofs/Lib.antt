@@ -1,2 +1,3 @@
 pub mod SeatMoves
 pub mod LatchKeeps
+pub mod LookKeeps

@@ -1,29 +1,25 @@
 -- What a step that touches no page leaves of the whole, and of others.
-use Rattle.std.proofs.Common.{◌≡◌, ◌≢◌, ℕ, ◌+◌, ◌-◌, ◌<◌, ◌≤◌, Bool, true, false, List, [], length, refl, ap, sym, subst, ◌∙◌, inl, inr, arith}
-use Rattle.std.specs.Prelude.{◌⊎◌, Option, Some, None, IsTrue, slice_index_or}
+use Rattle.std.proofs.Common.{◌≡◌, ◌≢◌, ℕ, ◌+◌, true, List, length, refl, ap, sym, subst, ◌∙◌, inl, inr, arith}
+use Rattle.std.specs.Prelude.{Some, IsTrue}
 use Rattle.std.proofs.lemmas.Bool.{cases_eq}
-use Rattle.page_base.specs.declared.numbers.Mode.{Mode}
 use Rattle.page_base.specs.declared.numbers.PageId.{PageId}
-use Rattle.page_base.specs.declared.numbers.SnapNo.{SnapNo}
 use Rattle.page_base.specs.Slots.{Slots}
 use Rattle.latch_book.specs.Latches.{latch_of, IsLatchBook}
 use Rattle.lock_book.specs.Locks.{lock_of, IsLockBook}
 use Rattle.plain_model.specs.Legal.{Legal}
 use Rattle.plain_model.specs.State.{Plain, session, committed, see, copy}
-use Rattle.rec_log.specs.Records.{Record}
-use Rattle.snap_pages.specs.Cuts.{place_of}
 use Rattle.snap_pages.specs.Shown.{Shown, counts, img, pins}
 use Rattle.snap_pages.specs.Slots.{slots_of}
 use Rattle.snap_pages.specs.Steps.{SameSnaps, SamePlaces}
-use Rattle.snap_pages.specs.Views.{IsKept, KeepsViews, view}
+use Rattle.snap_pages.specs.Views.{KeepsViews}
 use Rattle.sys_cat.specs.declared.desc.TableDesc.{TableDesc}
 use Rattle.page_fmt.specs.Content.{IsPage}
 use Rattle.page_tables.specs.Bases.{IsBase}
 use Rattle.page_tables.specs.Owners.{is_there}
 use Rattle.page_tables.specs.Sheets.{sheets}
 use Rattle.open_work.specs.Open.{Parts, settled, alone, before}
-use Rattle.step_words.specs.Seats.{Seated, with_seat}
-use Rattle.step_state.specs.State.{State, Fixed, IsSession, sess, seat, works, many, machine, slots_at, settled_of, alone_of, before_of}
+use Rattle.step_words.specs.Seats.{Seated}
+use Rattle.step_state.specs.State.{State, Fixed, sess, seat, works, many, machine, slots_at, settled_of, alone_of, before_of}
 use Rattle.step_state.specs.Holding.{lock_at}
 use Rattle.step_state.specs.Own.{IsSafeSession}
 use Rattle.step_state.specs.Whole.{IsWholeSafe, seat_pins}

@@ -5,10 +5,17 @@ ghost use Rattle.step_state.specs.Safe.{Safe};
 ghost use Rattle.step_state.specs.State.{State};
 ghost use Rattle.step_state.specs.Steps.{Steps};
 ghost use Rattle.safe_visit.specs.Latching.{DoesLatch};
+ghost use Rattle.safe_visit.specs.Looking.{DoesLook};
 
 /// A latch that is taken where none is in the way, whatever it is needed for, leaves to others what it owes them; so the engine
 /// stays safe.
 pub fn a_latch_keeps_the_engine_safe()
     ensures steps { (e s : State) (k : ℕ) → Safe e → DoesLatch e s k → Steps e s k }
     ensures safe { (e s : State) (k : ℕ) → Safe e → DoesLatch e s k → Safe s }
+{}
+
+/// And so does a look at the map of the snapshot that a session reads.
+pub fn a_look_keeps_the_engine_safe()
+    ensures steps { (e s : State) (k : ℕ) → Safe e → DoesLook e s k → Steps e s k }
+    ensures safe { (e s : State) (k : ℕ) → Safe e → DoesLook e s k → Safe s }
 {}

@@ -3,4 +3,4 @@
 
 mod law;
 
-pub use law::a_latch_keeps_the_engine_safe;
+pub use law::{a_latch_keeps_the_engine_safe, a_look_keeps_the_engine_safe};
