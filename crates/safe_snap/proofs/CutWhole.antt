@@ -19,7 +19,7 @@ use Rattle.sparse_set.specs.Sparse.{Sparse, is_copied, sparse_page}
 use Rattle.snap_cat.specs.declared.snapshot.SnapState.{SnapState}
 use Rattle.snap_cat.specs.declared.snapshot.SnapState.TheVariants.{Making, Online, Suspect}
 use Rattle.snap_cat.specs.Catalog.{Snap, Catalog, snap_at}
-use Rattle.snap_pages.specs.Cuts.{place_of, snap_by, is_open_by, marked_by, sparse_by, is_sound_by}
+use Rattle.snap_pages.specs.Cuts.{place_of, snap_by, is_open_by, marked_by, sparse_by, is_sound_by, owed_by}
 use Rattle.snap_pages.specs.Dues.{is_sound}
 use Rattle.snap_pages.specs.Owed.{count_on}
 use Rattle.snap_pages.specs.Shown.{Shown, catalog, count, counts, img, pins, state_of, IsOpen}
@@ -145,6 +145,9 @@ module _ (e s : State) (k : ℕ) (safe : Safe e) (d : DoesCut e s k) where
   sound_same : (c : ℕ) → c < (catalog e.pages).next_cut → is_sound_by s.pages c ≡ is_sound_by e.pages c
   sound_same c lt = ap (λ o. option_map_or (λ (f : Snap × Sparse). is_sound f.0.state) o false) (by_cut e s k safe d c lt)
 
+  owed_same : (c : ℕ) → c < (catalog e.pages).next_cut → owed_by s.pages c ≡ owed_by e.pages c
+  owed_same c lt = ap (λ o. option_map_or (λ (f : Snap × Sparse). f.0.owed.recs) o []) (by_cut e s k safe d c lt)
+
   -- an old snapshot that is kept was kept
   pub kept_back : (n : SnapNo) → IsOpen e.pages n → IsKept s.pages n → IsKept e.pages n × (view s.pages n ≡ view e.pages n)
   kept_back n old kept = elim (d.views n kept) [
@@ -160,6 +163,7 @@ module _ (e s : State) (k : ℕ) (safe : Safe e) (d : DoesCut e s k) where
     rises = omega (arith, next_more e s k safe d);
     named = λ j c is ne within. name_same c (cut_known j c is within);
     made = λ j c is ne making. let old = (safe.sessions j is).beside.made c making in (name_same c old.0, open_same c old.0 ∙ old.1);
+    owed = λ j c is ne making. owed_same c ((safe.sessions j is).beside.made c making).0;
     sound = λ c lt t. sym (sound_same c lt) ∙ t;
     reads = λ j c p is ne within at. marked_same c p (cut_known j c is within);
     marks = λ j c p is ne copied hold sound. marked_same c p ((safe.sessions j is).beside.copied c copied);

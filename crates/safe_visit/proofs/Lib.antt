@@ -1,3 +1,2 @@
-pub mod SeatMoves
 pub mod LatchKeeps
 pub mod LookKeeps

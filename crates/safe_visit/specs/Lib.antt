@@ -1,3 +1,2 @@
-pub mod Moving
 pub mod Latching
 pub mod Looking

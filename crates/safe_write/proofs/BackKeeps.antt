@@ -12,6 +12,7 @@ use Rattle.step_words.specs.Seats.{Seated, no_seat}
 use Rattle.step_state.specs.State.{State, sess, seat}
 use Rattle.step_state.specs.Holding.{lock_at}
 use Rattle.step_state.specs.Snapshots.{page_read}
+use Rattle.step_state.specs.Posed.{is_making}
 use Rattle.step_state.specs.Own.{IsSafeSession, is_between, is_gone}
 use Rattle.step_state.specs.Whole.{grip_pin, gathered_on, seat_pins, due_pins}
 use Rattle.step_state.specs.Safe.{Safe}
@@ -52,7 +53,7 @@ module _ (e s : State) (k : ℕ) (safe : Safe e) (d : DoesBack e s k) where
   own_kept = session_now e s k d.last.page y safe d.sets (lock_there e s k safe d)
       (seated_back (counts e.pages) (seat e k) (latch_of e.latches (sess k)) (lock_at e k) me.seated d.all d.at d.last d.records d.were d.sets.unmarked (lock_there e s k safe d))
       refl
-      (beside_now e s k d.last.page y safe d.sets unread refl refl refl refl)
+      (beside_now e s k d.last.page y safe d.sets unread refl (me.seated.posed.makes (ap is_making d.at)) refl refl refl)
       (in_step_now e s k d.last.page y safe d.sets refl refl refl refl refl refl (ap is_gone d.at)
       (by_back (counts e.pages) (seat e k) (latch_of e.latches (sess k)) (lock_at e k) me.seated d.all d.at d.last d.records d.were d.sets.unmarked (λ t. is_gone t ≡ false) (λ ne. refl) (λ same none. refl) (λ stmt same is. refl))
       (ap is_between d.at))

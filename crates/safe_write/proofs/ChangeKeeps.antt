@@ -15,6 +15,7 @@ use Rattle.step_words.specs.Seats.{Seated}
 use Rattle.step_state.specs.State.{State, sess, seat, slots_at}
 use Rattle.step_state.specs.Holding.{lock_at}
 use Rattle.step_state.specs.Snapshots.{page_read}
+use Rattle.step_state.specs.Posed.{is_making}
 use Rattle.step_state.specs.Own.{IsSafeSession, is_between, is_gone}
 use Rattle.step_state.specs.Whole.{grip_pin, gathered_on, seat_pins}
 use Rattle.step_state.specs.Safe.{Safe}
@@ -57,7 +58,7 @@ module _ (e s : State) (k : ℕ) (safe : Safe e) (d : DoesChange e s k) where
   own_kept = session_now e s k d.page y safe d.sets lock_there
       (seated_after (counts e.pages) (seat e k) (latch_of e.latches (sess k)) (lock_at e k) me.seated d.page d.at d.course d.has d.draft d.drafts d.next (record_of (slots_at e) (next_write d.course d.draft)) d.sets.unmarked lock_there)
       refl
-      (beside_now e s k d.page y safe d.sets unread refl refl refl refl)
+      (beside_now e s k d.page y safe d.sets unread refl (me.seated.posed.makes (ap is_making d.at)) refl refl refl)
       (in_step_now e s k d.page y safe d.sets refl refl refl refl refl refl (ap is_gone d.at) (by_point (λ t. is_gone t ≡ false) (seat e k).sitting d.course d.drafts refl refl (λ f later is. refl)) (ap is_between d.at))
 
   pub change_keeps : Steps e s k

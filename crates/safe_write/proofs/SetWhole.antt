@@ -80,7 +80,7 @@ module _ (e s : State) (k : ℕ) (page : PageId) (y : Seated) (safe : Safe e) (d
     latches = λ j ne. ap (λ ls. latch_of ls (sess j)) d.latches ∙ latch_of-without_latch e.latches (sess k) (sess j) (λ same. ne (ap (λ (w : SessNo). w.0) same));
     locks = λ j ne. held_same j;
     files = d.places.counts;
-    snaps = leaves_same e s k safe.sessions d.snaps d.places d.views (λ j p is ne hold. image_else p (latch_apart j p is ne hold));
+    snaps = leaves_same e s k safe.sessions d.snaps d.places d.views (λ j c p is ne copied hold. image_else p (latch_apart j p is ne hold));
     sessions = λ j is ne. ap (λ (m : Plain). session m j) history;
     scripts = ap (λ (m : Plain). m.scripts) history;
     later = (let same : (machine s).moment ≡ (machine e).moment = ap (λ (m : Plain). m.moment) history in omega (arith, same));
@@ -98,12 +98,13 @@ module _ (e s : State) (k : ℕ) (page : PageId) (y : Seated) (safe : Safe e) (d
   none_copied : y.copied ≡ (seat e k).copied → (c : ℕ) → y.copied ≡ Some c → ⊥
   none_copied same c at = (let wrong : None ≡ Some c = sym d.unmarked ∙ sym same ∙ at in cc)
 
-  pub beside_now : ((p : PageId) → page_read y.sitting.point ≡ Some p → ⊥) → y.copied ≡ (seat e k).copied → y.making ≡ (seat e k).making → y.sitting.within ≡ (seat e k).sitting.within → y.sitting.current ≡ (seat e k).sitting.current → IsBeside s.pages (seat s k)
-  beside_now unread copied making within current = subst (IsBeside s.pages) (sym now) (record {
+  pub beside_now : ((p : PageId) → page_read y.sitting.point ≡ Some p → ⊥) → y.copied ≡ (seat e k).copied → (seat e k).making ≡ None → y.making ≡ (seat e k).making → y.sitting.within ≡ (seat e k).sitting.within → y.sitting.current ≡ (seat e k).sitting.current → IsBeside s.pages (seat s k)
+  beside_now unread copied none making within current = subst (IsBeside s.pages) (sym now) (record {
     reads = λ c p in_it at. absurd (unread p at);
     marks = λ c p at hold sound. absurd (none_copied copied c at);
     copies = λ c p at hold kept. absurd (none_copied copied c at);
     copied = λ c at. absurd (none_copied copied c at);
+    paid = λ c at says waits sound. absurd (let wrong : None ≡ Some c = sym (making ∙ none) ∙ at in cc);
     made = λ c at. let old = me.beside.made c (sym making ∙ at) in (omega (arith, old.0, cut_same), open_same e s k safe.sessions d.snaps d.places d.views c ∙ old.1);
     named = λ c at. let old = me.beside.named c (sym within ∙ at) in (omega (arith, old.0, cut_same), name_same e s k safe.sessions d.snaps d.places d.views c ∙ old.1 ∙ ap (λ n. Some n) (sym current));
   })

@@ -6,3 +6,4 @@ pub mod StandingLemmas
 pub mod AlongLemmas
 pub mod SameLemmas
 pub mod KeptLemmas
+pub mod MoveLemmas

@@ -8,3 +8,4 @@ pub mod Plans
 pub mod Told
 pub mod Safe
 pub mod Steps
+pub mod Moving
