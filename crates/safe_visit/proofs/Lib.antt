@@ -1,2 +1,5 @@
 pub mod LatchKeeps
 pub mod LookKeeps
+pub mod FetchKeeps
+pub mod ReadKeeps
+pub mod PassKeeps

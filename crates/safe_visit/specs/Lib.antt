@@ -1,2 +1,4 @@
 pub mod Latching
 pub mod Looking
+pub mod Fetching
+pub mod Passing

@@ -7,3 +7,4 @@ pub mod AlongLemmas
 pub mod SameLemmas
 pub mod KeptLemmas
 pub mod MoveLemmas
+pub mod ApartLemmas
