@@ -176,6 +176,7 @@ module _ (e s : State) (k : ℕ) (safe : Safe e) (d : DoesCommit e s k) where
     idle = λ z. ap (λ (x : Session). x.work) its.here;
     making = ap (λ (x : Session). x.making) its.here ∙ sym (ap (making_in s.pages) none_made);
     gone = ap (λ (x : Session). x.gone) its.here ∙ me.in_step.gone ∙ ap is_gone d.at;
+    rested = λ t. (ap (λ (x : Session). x.first) its.here, (let a = ap (λ (x : Session). x.since) its.here in let b = its.moment in omega (arith, a, b)));
     begun = λ f. cc;
   }
 

@@ -145,6 +145,7 @@ module _ (e s : State) (k : ℕ) (safe : Safe e) (d : DoesFetch e s k) where
     idle = me.in_step.idle;
     making = me.in_step.making;
     gone = me.in_step.gone ∙ step (λ old new. is_gone old ≡ is_gone new) (λ rows. refl) refl (λ o. refl);
+    rested = λ t. me.in_step.rested (elim t [ | inl b ↦ absurd (step (λ old new. is_between new ≡ true → ⊥) (λ rows q. cc) (λ q. cc) (λ o q. cc) b) | inr none ↦ inr none ]);
     begun = λ f. me.in_step.begun (step (λ old new. is_between old ≡ false) (λ rows. refl) refl (λ o. refl));
   }
 

@@ -179,6 +179,7 @@ module _ (e s : State) (k : ℕ) (safe : Safe e) (d : DoesLatch e s k) where
     idle = me.in_step.idle;
     making = me.in_step.making;
     gone = me.in_step.gone ∙ step (λ old new. is_gone old ≡ is_gone new) refl refl refl (λ o. refl) (λ a. refl) refl;
+    rested = λ t. me.in_step.rested (elim t [ | inl b ↦ absurd (step (λ old new. is_between new ≡ true → ⊥) (λ q. cc) (λ q. cc) (λ q. cc) (λ o q. cc) (λ a q. cc) (λ q. cc) b) | inr none ↦ inr none ]);
     begun = λ f. me.in_step.begun (step (λ old new. is_between new ≡ false → is_between old ≡ false) (λ q. refl) (λ q. refl) (λ q. refl) (λ o q. refl) (λ a q. refl) (λ q. refl) f);
   }
 

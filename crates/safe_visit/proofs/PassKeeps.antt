@@ -122,6 +122,7 @@ module _ (e s : State) (k : ℕ) (safe : Safe e) (d : DoesPass e s k) where
     idle = me.in_step.idle;
     making = me.in_step.making;
     gone = me.in_step.gone;
+    rested = me.in_step.rested;
     begun = me.in_step.begun;
   }
 

@@ -131,6 +131,7 @@ module _ (e s : State) (k : ℕ) (safe : Safe e) (d : DoesReadCopy e s k) where
     idle = me.in_step.idle;
     making = me.in_step.making;
     gone = me.in_step.gone ∙ ap is_gone d.at;
+    rested = λ t. me.in_step.rested (elim t [ | inl b ↦ absurd (let wrong : false ≡ true = b in cc) | inr none ↦ inr none ]);
     begun = λ f. me.in_step.begun (ap is_between d.at);
   }
 

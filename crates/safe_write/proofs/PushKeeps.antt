@@ -111,7 +111,7 @@ module _ (e s : State) (k : ℕ) (safe : Safe e) (copied : Option ℕ) (is : IsS
   in_step_copied : IsInStep e.pages z (session (machine e) k) (machine e).moment
   in_step_copied =
       let a = (safe.sessions k is).in_step in
-      record { said = a.said; current = a.current; depth = a.depth; level = a.level; idle = a.idle; making = a.making; gone = a.gone; begun = a.begun }
+      record { said = a.said; current = a.current; depth = a.depth; level = a.level; idle = a.idle; making = a.making; gone = a.gone; rested = a.rested; begun = a.begun }
 
   told_copied : (ds : List TableDesc) → IsContent e ds → IsToldSource (counts e.pages) ds z (lock_at e k) (session (machine e) k) (alone_of e k) (before_of e k) (see (machine e) k) × IsToldReading e.pages (machine e) z
   told_copied ds content =

@@ -89,6 +89,7 @@ module _ (e s : State) (k : ℕ) (g : Guards e s k) (j : ℕ) (is : IsSession e 
     idle = a.idle;
     making = a.making ∙ sym making_same;
     gone = a.gone;
+    rested = λ t. let old = a.rested t in (old.0, omega (arith, old.1, g.later));
     begun = λ f. let old = a.begun f in (old.0, later (session (machine e) j).first old.1);
   }
     where

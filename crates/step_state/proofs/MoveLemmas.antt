@@ -277,6 +277,7 @@ module _ (e s : State) (k : ℕ) (x : Seated) (safe : Safe e) (d : MovesSeat e s
     idle = a.idle;
     making = a.making ∙ sym (making_stays e.pages s.pages stays x.making);
     gone = a.gone;
+    rested = a.rested;
     begun = a.begun;
   }
 
@@ -316,6 +317,9 @@ module _ (e s : State) (k : ℕ) (x : Seated) (safe : Safe e) (d : MovesSeat e s
           let owed : snaps_pins (catalog s.pages).snaps p ≡ snaps_pins (catalog e.pages).snaps p = ap (λ (c : Catalog). snaps_pins c.snaps p) stays.cat in
           omega (arith, pinned p, safe.whole.pinned p, moved, due, owed);
       paid = λ n there online. ap (λ (c : Catalog). (snap_at c n).owed.recs) stays.cat ∙ safe.whole.paid n (omega (arith, there, stays.places.count)) (sym (ap (λ (c : Catalog). (snap_at c n).state) stays.cat) ∙ online);
+      makers = λ n there makes.
+          let old = safe.whole.makers n (omega (arith, there, stays.places.count)) (sym (ap (λ (c : Catalog). (snap_at c n).state) stays.cat) ∙ makes) in
+          (old.0, record { first = old.1.first; last = omega (arith, old.1.last, as_many) }, kept_field (λ (y : Seated). y.making) making old.0 ∙ old.2 ∙ ap (λ (c : Catalog). Some (snap_at c n).cut) (sym stays.cat));
       snaps = ap (λ (m : Plain). m.snaps) history ∙ safe.whole.snaps ∙ ap (λ (c : Catalog). map snap_told c.snaps) (sym stays.cat);
       cut = ap (λ (m : Plain). m.next_cut) history ∙ safe.whole.cut ∙ ap (λ (c : Catalog). c.next_cut) (sym stays.cat);
       reverts = λ who snap restores.

@@ -139,6 +139,9 @@ module _ (e s : State) (k : ℕ) (is : IsSession e k) (x : Seated) (whole : IsWh
         let owed : snaps_pins (catalog s.pages).snaps p ≡ snaps_pins (catalog e.pages).snaps p = ap (λ (c : Catalog). snaps_pins c.snaps p) same.cat in
         omega (arith, pinned p, whole.pinned p, moved, due, owed);
     paid = λ n there online. ap (λ (c : Catalog). (snap_at c n).owed.recs) same.cat ∙ whole.paid n (omega (arith, there, places.count)) (sym (ap (λ (c : Catalog). (snap_at c n).state) same.cat) ∙ online);
+    makers = λ n there makes.
+        let old = whole.makers n (omega (arith, there, places.count)) (sym (ap (λ (c : Catalog). (snap_at c n).state) same.cat) ∙ makes) in
+        (old.0, record { first = old.1.first; last = omega (arith, old.1.last, seats_many) }, kept_field (λ (y : Seated). y.making) making old.0 ∙ old.2 ∙ ap (λ (c : Catalog). Some (snap_at c n).cut) (sym same.cat));
     snaps = snaps_kept ∙ whole.snaps ∙ ap (λ (c : Catalog). map snap_told c.snaps) (sym same.cat);
     cut = cut_kept ∙ whole.cut ∙ ap (λ (c : Catalog). c.next_cut) (sym same.cat);
     reverts = λ who snap now.
