@@ -1,3 +1,4 @@
+pub mod BeginKeeps
 pub mod LatchKeeps
 pub mod LookKeeps
 pub mod FetchKeeps

@@ -1,3 +1,4 @@
+pub mod Beginning
 pub mod Latching
 pub mod Looking
 pub mod Fetching

@@ -9,3 +9,4 @@ pub mod Told
 pub mod Safe
 pub mod Steps
 pub mod Moving
+pub mod Going
