@@ -1,9 +1,9 @@
 -- A statement on tables that begins leaves to others what it owes them, and shows the rest.
-use Rattle.std.proofs.Common.{◌≡◌, ◌≢◌, ℕ, ◌+◌, ◌-◌, ◌≤◌, ◌<◌, length, Bool, true, false, cond, List, [], ◌∷◌, ◌++◌, refl, ap, sym, subst, ◌∙◌, inl, inr, arith}
+use Rattle.std.proofs.Common.{◌≡◌, ◌≢◌, ℕ, ◌+◌, ◌-◌, ◌≤◌, ◌<◌, length, Bool, true, false, cond, List, [], ◌∷◌, ◌++◌, refl, ap, sym, subst, ◌∙◌, inl, inr, arith, map}
 use Rattle.std.specs.Prelude.{◌⊎◌, Option, Some, None, IsTrue, slice_index_or, unwrap_or, option_map}
 use Rattle.std.specs.Option.{option_map_or}
 use Rattle.page_base.specs.Pages.{blank}
-use Rattle.snap_cat.specs.Catalog.{Snap as SnapEntry, snap_at}
+use Rattle.snap_cat.specs.Catalog.{Snap as SnapEntry, snap_at, Catalog}
 use Rattle.std.proofs.lemmas.Bool.{cases_Bool}
 use Rattle.page_base.specs.declared.numbers.PageId.{PageId}
 use Rattle.page_base.specs.declared.numbers.SnapNo.{SnapNo}
@@ -33,7 +33,7 @@ use Rattle.step_state.specs.Holding.{lock_at, HasLocks}
 use Rattle.step_state.specs.Posed.{FitsGrip, lacks_course, lacks_work, is_making, IsNextEdit, IsIn, IsOnCourse, IsPosed}
 use Rattle.step_state.specs.Own.{IsSeated, IsInStep, IsAside, IsSafeSession, page_at, is_gone, is_between}
 use Rattle.step_state.specs.Snapshots.{name_by, IsBeside, HoldsEx, IsKeptBy, page_read}
-use Rattle.step_state.specs.Whole.{grip_pin, gathered_on, seat_pins}
+use Rattle.step_state.specs.Whole.{grip_pin, gathered_on, seat_pins, snap_told}
 use Rattle.step_state.specs.Told.{IsToldSource, IsToldReading, SeesSource, DifferAll}
 use Rattle.step_state.specs.Safe.{Safe, IsContent}
 use Rattle.step_state.specs.Steps.{Steps}
@@ -255,7 +255,7 @@ module _ (e s : State) (k : ℕ) (safe : Safe e) (d : DoesBegin e s k) where
       by kind (InSnap cut within select sound) = aside.away.1 (only_snap e k safe d.moves.is who snap restores cut within)
 
   pub begin_keeps : Steps e s k
-  begin_keeps = seat_moves e s k y safe d.moves (stays_put e.pages s.pages d.pages) refl refl refl refl refl
+  begin_keeps = seat_moves e s k y safe d.moves (stays_put e.pages s.pages d.pages) (ap (λ (v : Shown). map snap_told (catalog v).snaps) d.pages) refl refl refl refl refl
       (record {
         reads = λ j a p is ne within at. ap (λ (v : Shown). marked_by v a p) d.pages;
         marks = λ j a p is ne copied hold. ap (λ (v : Shown). marked_by v a p) d.pages;

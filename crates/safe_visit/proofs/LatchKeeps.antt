@@ -1,5 +1,5 @@
 -- A latch that is taken leaves to others what it owes them, and shows the rest.
-use Rattle.std.proofs.Common.{◌≡◌, ℕ, ◌+◌, ◌-◌, Bool, true, false, List, [], ◌∷◌, ◌++◌, refl, ap, sym, subst, ◌∙◌, inl, inr, arith}
+use Rattle.std.proofs.Common.{◌≡◌, ℕ, ◌+◌, ◌-◌, Bool, true, false, List, [], ◌∷◌, ◌++◌, refl, ap, sym, subst, ◌∙◌, inl, inr, arith, map}
 use Rattle.std.specs.Prelude.{Option, Some, None, option_map, slice_index_or}
 use Rattle.page_base.specs.declared.numbers.Mode.{Mode}
 use Rattle.page_base.specs.declared.numbers.PageId.{PageId}
@@ -13,7 +13,7 @@ use Rattle.plain_model.specs.State.{Plain, session, see}
 use Rattle.plain_steps.specs.Modes.{suffices}
 use Rattle.plain_steps.specs.Phases.{first_mode}
 use Rattle.rec_log.specs.Records.{Record}
-use Rattle.snap_cat.specs.Catalog.{Snap as SnapEntry, snap_at}
+use Rattle.snap_cat.specs.Catalog.{Snap as SnapEntry, snap_at, Catalog}
 use Rattle.sparse_set.specs.Sparse.{Sparse}
 use Rattle.snap_pages.specs.Owed.{count_on}
 use Rattle.snap_pages.specs.Cuts.{marked_by, sparse_by}
@@ -33,7 +33,7 @@ use Rattle.step_state.specs.Holding.{lock_at}
 use Rattle.step_state.specs.Posed.{FitsGrip, lacks_course, lacks_work, is_making, IsIn, IsOnCourse, IsPosed}
 use Rattle.step_state.specs.Own.{IsSeated, IsInStep, IsAside, IsSafeSession, page_at, is_gone, is_between}
 use Rattle.step_state.specs.Snapshots.{IsBeside, name_by, page_read}
-use Rattle.step_state.specs.Whole.{grip_pin, gathered_on, seat_pins}
+use Rattle.step_state.specs.Whole.{grip_pin, gathered_on, seat_pins, snap_told}
 use Rattle.step_state.specs.Told.{IsToldSource, IsToldReading}
 use Rattle.step_state.specs.Safe.{Safe, IsContent}
 use Rattle.step_state.specs.Steps.{Steps}
@@ -250,7 +250,7 @@ module _ (e s : State) (k : ℕ) (safe : Safe e) (d : DoesLatch e s k) where
       }
 
   pub latch_keeps : Steps e s k
-  latch_keeps = seat_moves e s k y safe d.moves (stays_put e.pages s.pages d.pages) refl refl refl refl refl
+  latch_keeps = seat_moves e s k y safe d.moves (stays_put e.pages s.pages d.pages) (ap (λ (v : Shown). map snap_told (catalog v).snaps) d.pages) refl refl refl refl refl
       (record {
         reads = λ j c p is ne within at. ap (λ (v : Shown). marked_by v c p) d.pages;
         marks = λ j c p is ne copied hold. ap (λ (v : Shown). marked_by v c p) d.pages;

@@ -1,5 +1,5 @@
 -- A look at a snapshot's map leaves to others what it owes them, and shows the rest.
-use Rattle.std.proofs.Common.{◌≡◌, ℕ, ◌-◌, List, [], refl, ap, sym, subst, ◌∙◌, inl, arith, inr, true, false}
+use Rattle.std.proofs.Common.{◌≡◌, ℕ, ◌-◌, List, [], refl, ap, sym, subst, ◌∙◌, inl, arith, inr, true, false, map}
 use Rattle.std.specs.Prelude.{Option, Some, None, slice_index_or}
 use Rattle.page_base.specs.declared.numbers.Mode.{Mode}
 use Rattle.page_base.specs.declared.numbers.PageId.{PageId}
@@ -10,8 +10,10 @@ use Rattle.latch_book.specs.Latches.{Latches, latch_of, IsLatchBook}
 use Rattle.latch_book.proofs.LatchLemmas.{some_latch}
 use Rattle.plain_model.specs.State.{Plain, session, see}
 use Rattle.snap_pages.specs.Cuts.{marked_by, sparse_by}
-use Rattle.snap_pages.specs.Shown.{Shown, counts, pins}
+use Rattle.snap_pages.specs.Shown.{Shown, counts, pins, catalog}
 use Rattle.sys_cat.specs.declared.desc.TableDesc.{TableDesc}
+use Rattle.step_state.specs.Whole.{snap_told}
+use Rattle.snap_cat.specs.Catalog.{Catalog}
 use Rattle.step_words.specs.Courses.{Course}
 use Rattle.step_words.specs.Sittings.{stmt_at, undoes_all}
 use Rattle.step_words.specs.Seats.{Seated, Free, Latched, latch_at}
@@ -159,7 +161,7 @@ module _ (e s : State) (k : ℕ) (safe : Safe e) (d : DoesLook e s k) where
       record { seen = old.seen; image = λ cut n p rows within place kept at found. cc; reply = old.reply }
 
   pub look_keeps : Steps e s k
-  look_keeps = seat_moves e s k y safe d.moves (stays_put e.pages s.pages d.pages) refl refl refl refl refl
+  look_keeps = seat_moves e s k y safe d.moves (stays_put e.pages s.pages d.pages) (ap (λ (v : Shown). map snap_told (catalog v).snaps) d.pages) refl refl refl refl refl
       (record {
         reads = λ j c p is ne within at. ap (λ (v : Shown). marked_by v c p) d.pages;
         marks = λ j c p is ne copied hold. ap (λ (v : Shown). marked_by v c p) d.pages;

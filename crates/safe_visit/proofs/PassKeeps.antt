@@ -1,9 +1,9 @@
 -- An allocation page that is passed leaves to others what it owes them, and shows the rest.
-use Rattle.std.proofs.Common.{◌≡◌, ◌≢◌, ℕ, ◌+◌, ◌-◌, Bool, true, false, cond, List, [], ◌∷◌, ◌++◌, refl, ap, sym, subst, ◌∙◌, inl, inr, arith}
+use Rattle.std.proofs.Common.{◌≡◌, ◌≢◌, ℕ, ◌+◌, ◌-◌, Bool, true, false, cond, List, [], ◌∷◌, ◌++◌, refl, ap, sym, subst, ◌∙◌, inl, inr, arith, map}
 use Rattle.std.specs.Prelude.{◌⊎◌, Option, Some, None, IsTrue, slice_index_or}
 use Rattle.std.specs.Option.{option_map_or}
 use Rattle.page_base.specs.Pages.{blank}
-use Rattle.snap_cat.specs.Catalog.{Snap as SnapEntry}
+use Rattle.snap_cat.specs.Catalog.{Snap as SnapEntry, Catalog}
 use Rattle.std.proofs.lemmas.Bool.{cases_Bool}
 use Rattle.page_base.specs.declared.numbers.PageId.{PageId}
 use Rattle.page_base.specs.declared.numbers.SnapNo.{SnapNo}
@@ -20,7 +20,7 @@ use Rattle.plain_model.specs.State.{session, see}
 use Rattle.sparse_set.specs.Sparse.{Sparse, is_copied, sparse_page}
 use Rattle.snap_pages.specs.Owed.{count_on}
 use Rattle.snap_pages.specs.Cuts.{marked_by, sparse_by}
-use Rattle.snap_pages.specs.Shown.{Shown, counts, pins, img, set_of}
+use Rattle.snap_pages.specs.Shown.{Shown, counts, pins, img, set_of, catalog}
 use Rattle.sys_cat.specs.declared.desc.TableDesc.{TableDesc}
 use Rattle.step_words.specs.declared.point.Point.{Point}
 use Rattle.step_words.specs.declared.point.Point.TheVariants.{Start, Fetch, Take, Claim, Change, Undo, Commit, Say}
@@ -33,7 +33,7 @@ use Rattle.step_state.specs.Holding.{lock_at}
 use Rattle.step_state.specs.Posed.{FitsGrip, lacks_course, lacks_work, is_making, IsNextEdit, IsIn, IsPosed}
 use Rattle.step_state.specs.Own.{IsSeated, IsInStep, IsAside, IsSafeSession, page_at, is_gone, is_between}
 use Rattle.step_state.specs.Snapshots.{IsBeside, HoldsEx, IsKeptBy, page_read}
-use Rattle.step_state.specs.Whole.{grip_pin, gathered_on, seat_pins}
+use Rattle.step_state.specs.Whole.{grip_pin, gathered_on, seat_pins, snap_told}
 use Rattle.step_state.specs.Told.{IsToldSource, IsToldReading}
 use Rattle.step_state.specs.Safe.{Safe, IsContent}
 use Rattle.step_state.specs.Steps.{Steps}
@@ -145,7 +145,7 @@ module _ (e s : State) (k : ℕ) (safe : Safe e) (d : DoesPass e s k) where
       ]
 
   pub pass_keeps : Steps e s k
-  pass_keeps = seat_moves e s k y safe d.moves stays refl refl refl refl refl
+  pass_keeps = seat_moves e s k y safe d.moves stays (ap (λ (c : Catalog). map snap_told c.snaps) d.snaps.cat) refl refl refl refl refl
       (record { reads = λ j c p is ne within at. map_same c p; marks = λ j c p is ne copied hold. map_same c p; sparse = λ j c p is ne copied hold kept. file_same c p })
       (λ j ne. ap (λ ls. latch_of ls (sess j)) d.latches ∙ latch_of-without_latch e.latches (sess k) (sess j) (λ same. ne (ap (λ (w : SessNo). w.0) same)))
       (subst IsLatchBook (sym d.latches) (IsLatchBook-without_latch e.latches (sess k) safe.whole.latches is_latcher))

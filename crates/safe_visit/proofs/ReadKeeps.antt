@@ -1,9 +1,9 @@
 -- A snapshot's own copy that is read leaves to others what it owes them, and shows the rest.
-use Rattle.std.proofs.Common.{◌≡◌, ◌≢◌, ℕ, ◌+◌, ◌-◌, Bool, true, false, cond, List, [], ◌∷◌, ◌++◌, refl, ap, sym, subst, ◌∙◌, inl, inr, arith}
+use Rattle.std.proofs.Common.{◌≡◌, ◌≢◌, ℕ, ◌+◌, ◌-◌, Bool, true, false, cond, List, [], ◌∷◌, ◌++◌, refl, ap, sym, subst, ◌∙◌, inl, inr, arith, map}
 use Rattle.std.specs.Prelude.{◌⊎◌, Option, Some, None, IsTrue, slice_index_or}
 use Rattle.std.specs.Option.{option_map_or}
 use Rattle.page_base.specs.Pages.{blank}
-use Rattle.snap_cat.specs.Catalog.{Snap as SnapEntry}
+use Rattle.snap_cat.specs.Catalog.{Snap as SnapEntry, Catalog}
 use Rattle.std.proofs.lemmas.Bool.{cases_Bool}
 use Rattle.page_base.specs.declared.numbers.PageId.{PageId}
 use Rattle.page_base.specs.declared.numbers.SnapNo.{SnapNo}
@@ -20,7 +20,7 @@ use Rattle.page_base.specs.Pages.{Pages, image_at, page_or}
 use Rattle.page_dev.specs.Files.{Files}
 use Rattle.buf_pool.specs.Pool.{Pooled, pins as pool_pins}
 use Rattle.page_tables.specs.Owners.{is_there}
-use Rattle.snap_pages.specs.Shown.{Shown, counts, pins, img, set_of}
+use Rattle.snap_pages.specs.Shown.{Shown, counts, pins, img, set_of, catalog}
 use Rattle.sys_cat.specs.declared.desc.TableDesc.{TableDesc}
 use Rattle.step_words.specs.declared.point.Point.{Point}
 use Rattle.step_words.specs.declared.point.Point.TheVariants.{Start, Fetch, Take, Claim, Change, Undo, Commit, Say}
@@ -33,7 +33,7 @@ use Rattle.step_state.specs.Holding.{lock_at}
 use Rattle.step_state.specs.Posed.{FitsGrip, lacks_course, lacks_work, is_making, IsNextEdit, IsIn, IsPosed}
 use Rattle.step_state.specs.Own.{IsSeated, IsInStep, IsAside, IsSafeSession, page_at, is_gone, is_between}
 use Rattle.step_state.specs.Snapshots.{IsBeside, HoldsEx, IsKeptBy, page_read}
-use Rattle.step_state.specs.Whole.{grip_pin, gathered_on, seat_pins}
+use Rattle.step_state.specs.Whole.{grip_pin, gathered_on, seat_pins, snap_told}
 use Rattle.step_state.specs.Told.{IsToldSource, IsToldReading}
 use Rattle.step_state.specs.Safe.{Safe, IsContent}
 use Rattle.step_state.specs.Steps.{Steps}
@@ -161,7 +161,7 @@ module _ (e s : State) (k : ℕ) (safe : Safe e) (d : DoesReadCopy e s k) where
       }
 
   pub read_copy_keeps : Steps e s k
-  read_copy_keeps = seat_moves e s k y safe d.moves stays refl refl refl refl refl
+  read_copy_keeps = seat_moves e s k y safe d.moves stays (ap (λ (c : Catalog). map snap_told c.snaps) d.only.cat) refl refl refl refl refl
       (record { reads = λ j c p is ne within at. map_same c p; marks = λ j c p is ne copied hold. map_same c p; sparse = λ j c p is ne copied hold kept. file_same c p kept })
       (λ j ne. ap (λ ls. latch_of ls (sess j)) d.latches)
       (subst IsLatchBook (sym d.latches) safe.whole.latches)

@@ -1,5 +1,5 @@
 -- A copy and a mark leave to others what they owe them, and show the rest.
-use Rattle.std.proofs.Common.{◌≡◌, ◌≢◌, ℕ, Bool, true, false, cond, List, [], length, refl, ap, sym, subst, ◌∙◌, inl, inr, arith}
+use Rattle.std.proofs.Common.{◌≡◌, ◌≢◌, ℕ, Bool, true, false, cond, List, [], length, refl, ap, sym, subst, ◌∙◌, inl, inr, arith, map}
 use Rattle.std.specs.Prelude.{◌⊎◌, Option, Some, None, IsTrue, is_some}
 use Rattle.page_base.specs.declared.numbers.Mode.{Mode}
 use Rattle.page_base.specs.declared.numbers.PageId.{PageId}
@@ -21,6 +21,7 @@ use Rattle.snap_pages.specs.Views.{IsKept, KeepsViews}
 use Rattle.snap_pages.proofs.CutLemmas.{place_of_cut}
 use Rattle.sys_cat.specs.declared.desc.TableDesc.{TableDesc}
 use Rattle.page_tables.specs.Owners.{is_there}
+use Rattle.step_state.specs.Whole.{snap_told}
 use Rattle.step_words.specs.declared.point.Point.{Point}
 use Rattle.step_words.specs.declared.point.Point.TheVariants.{Change, Claim, Undo, Heal}
 use Rattle.step_words.specs.Courses.{Course}
@@ -191,7 +192,7 @@ module _ (e s : State) (k : ℕ) (safe : Safe e) (d : DoesCopy e s k) where
   }
 
   pub copy_keeps : Steps e s k
-  copy_keeps = seat_moves e s k y safe d.moves stays refl refl refl refl refl
+  copy_keeps = seat_moves e s k y safe d.moves stays (ap (λ (c : Catalog). map snap_told c.snaps) d.only.cat) refl refl refl refl refl
       (record {
         reads = λ j c p is ne within at. map_same c p;
         marks = λ j c p is ne copied hold. map_same c p;
@@ -238,6 +239,10 @@ module _ (old new : Shown) (cut : ℕ) (p : PageId) (here : is_there (counts old
       ∙ by_place_no (λ m. sparse_page (set_of new m) q ≡ sparse_page (set_of old m) q) n kept.0 (ap (λ (x : Sparse). sparse_page x q) is) (λ other. ap (λ (x : Sparse). sparse_page x q) (only.others kept.0 other))
       ∙ sym (sparse_at old c kept.0 ((λ i. sym places.places i c) ∙ kept.1) q)
 
+  told_marked : Marks old new cut p → map snap_told (catalog new).snaps ≡ map snap_told (catalog old).snaps
+  told_marked (Gone none same) = ap (λ (v : Shown). map snap_told (catalog v).snaps) same
+  told_marked (Marked n at is now only places views) = ap (λ (c : Catalog). map snap_told c.snaps) only.cat
+
   pool_marked : Marks old new cut p → (q : PageId) → pins new q ≡ pins old q
   pool_marked (Gone none same) q = ap (λ (v : Shown). pins v q) same
   pool_marked (Marked n at is now only places views) q = ap (λ (x : Pooled). pool_pins x q) only.pool
@@ -267,7 +272,7 @@ module _ (e s : State) (k : ℕ) (safe : Safe e) (d : DoesMark e s k) where
   }
 
   pub mark_keeps : Steps e s k
-  mark_keeps = seat_moves e s k w safe d.moves shown_stays refl refl refl refl refl
+  mark_keeps = seat_moves e s k w safe d.moves shown_stays (told_marked e.pages s.pages d.cut d.page d.there d.marks) refl refl refl refl refl
       (record {
         reads = λ j c p is ne within at. map_marked e.pages s.pages d.cut d.page d.there d.marks c p (read_apart e k d.page safe d.moves.is holds j p is ne at);
         marks = λ j c p is ne copied hold. map_marked e.pages s.pages d.cut d.page d.there d.marks c p (latch_apart e k d.page safe d.moves.is holds j p Ex is ne hold);

@@ -14,7 +14,7 @@ use Rattle.latch_book.specs.declared.latch.LatchMode.TheVariants.{Sh, Ex}
 use Rattle.latch_book.specs.Latches.{latch_of}
 use Rattle.page_tables.specs.Owners.{is_there}
 use Rattle.sparse_set.specs.Sparse.{Sparse, is_copied, sparse_page}
-use Rattle.snap_cat.specs.Catalog.{Snap, snap_at}
+use Rattle.snap_cat.specs.Catalog.{Snap, Catalog, IsCatalog, snap_at}
 use Rattle.snap_pages.specs.Cuts.{place_of, snap_by, marked_by, sparse_by, is_sound_by, owed_by}
 use Rattle.snap_pages.specs.Dues.{is_sound}
 use Rattle.snap_pages.specs.Shown.{Shown, catalog, counts, pins, set_of, state_of, owes_of}
@@ -26,7 +26,7 @@ use Rattle.step_words.specs.Seats.{Seated, Grip, no_seat, with_seat, latch_at}
 use Rattle.step_state.specs.State.{State, IsSession, sess, seat}
 use Rattle.step_state.specs.Posed.{FitsGrip}
 use Rattle.step_state.specs.Snapshots.{HoldsEx, page_read}
-use Rattle.step_state.specs.Whole.{IsWholeSafe, seat_pins, seats_pins}
+use Rattle.step_state.specs.Whole.{IsWholeSafe, seat_pins, seats_pins, snaps_pins}
 use Rattle.step_state.specs.Safe.{Safe}
 use Rattle.step_state.specs.Moving.{StaysShown}
 use Rattle.step_state.proofs.SeatLemmas.{seat_pins_moved}
@@ -132,7 +132,13 @@ stays_set old new n only places views here grows comes = record {
   images = λ told. ap (λ (x : Pooled). pool_img x) only.pool;
   places = places;
   views = views;
-  cat = only.cat;
+  names = λ m. ap (λ (c : Catalog). (snap_at c m).name) only.cat;
+  cuts = λ m. ap (λ (c : Catalog). (snap_at c m).cut) only.cat;
+  owed = λ m. ap (λ (c : Catalog). (snap_at c m).owed.recs) only.cat;
+  states = λ m. inl (ap (λ (c : Catalog). (snap_at c m).state) only.cat);
+  next = ap (λ (c : Catalog). c.next_cut) only.cat;
+  ordered = λ is. subst IsCatalog (sym only.cat) is;
+  due = λ p. ap (λ (c : Catalog). snaps_pins c.snaps p) only.cat;
   many = ap (λ (v : Shown). length v.sets) only.is ∙ length-set old.sets n.0 (set_of new n);
   alike = λ m. by_place_no (λ j. (set_of new j).files.counts ≡ (set_of old j).files.counts) n m here (λ ne. ap (λ (t : Sparse). t.files.counts) (only.others m ne));
   grows = λ m p. by_place_no (λ j. is_copied (set_of old j) p ≡ true → is_copied (set_of new j) p ≡ true) n m (grows p) (λ ne t. ap (λ (x : Sparse). is_copied x p) (only.others m ne) ∙ t);
