@@ -34,10 +34,11 @@ use Rattle.step_state.specs.Snapshots.{IsBeside, HoldsEx, IsKeptBy, page_read}
 use Rattle.step_state.specs.Told.{IsToldSource, IsToldReading}
 use Rattle.step_state.specs.Safe.{Safe, IsContent}
 use Rattle.step_state.specs.Steps.{Steps}
-use Rattle.step_state.specs.Moving.{StaysShown}
-use Rattle.step_state.proofs.MoveLemmas.{stays_put, beside_stays, on_moved, source_moved, seat_moves}
+use Rattle.step_state.specs.Moving.{StaysShown, MovesOn}
+use Rattle.step_state.proofs.MoveLemmas.{stays_put, beside_stays, reading_stays, on_moved, source_moved, moves_on, seat_moves}
+use Rattle.step_state.proofs.TurnLemmas.{stays_turned, moves_turned, turned_file, in_step_later, reading_over, same_seat}
 use Rattle.step_state.proofs.ApartLemmas.{by_place_no, marked_on, marked_at, sparse_at, stays_set, latch_apart, read_apart}
-use Rattle.safe_write.specs.Pushing.{Pushes, ToChange, ToClaim, ToUndo, ToHeal, seat_copied, DoesCopy, Marks, Marked, Gone, DoesMark}
+use Rattle.safe_write.specs.Pushing.{Pushes, ToChange, ToClaim, ToUndo, ToHeal, seat_copied, DoesCopy, Marks, Marked, Gone, DoesMark, DoesLoseCopy}
 
 some_is : {T : Type 0} (a b : T) → Some a ≡ Some b → a ≡ b
 some_is {T} a b e = ap pick e
@@ -290,3 +291,49 @@ module _ (e s : State) (k : ℕ) (safe : Safe e) (d : DoesMark e s k) where
         aside = λ who snap restores. absurd (pushes_held (seat e k) d.page d.pushes (us.aside who snap restores).latch);
       })
       (told_copied e s k safe None d.moves.is)
+
+-- A COPY THAT FAILS
+
+module _ (e s : State) (k : ℕ) (safe : Safe e) (d : DoesLoseCopy e s k) where
+  abbrev u : Seated
+  u = seat e k
+
+  my : IsSafeSession e k
+  my = safe.sessions k d.is
+
+  turned_stays : StaysShown e.pages s.pages
+  turned_stays = stays_turned e.pages s.pages d.place d.turns
+
+  moves : MovesOn e s k u (lock_at e k) (session (machine e) k)
+  moves = moves_turned e s k d.place safe d.turns d.says u d.is (d.seats ∙ same_seat e k)
+
+  map_turned : (c : ℕ) (p : PageId) → marked_by s.pages c p ≡ marked_by e.pages c p
+  map_turned c p = marked_on e.pages s.pages d.turns.places c p (λ n. by_place_no (λ m. is_copied (set_of s.pages m) p ≡ is_copied (set_of e.pages m) p) d.place n (ap (λ (m : Pages Bool). page_or m p false) d.turns.map) (λ ne. ap (λ (t : Sparse). is_copied t p) (d.turns.others n ne)))
+
+  file_turned : (c : ℕ) (p : PageId) → IsKeptBy s.pages c → sparse_by s.pages c p ≡ sparse_by e.pages c p
+  file_turned c p kept = turned_file e.pages s.pages d.place d.turns c p kept
+
+  none_waits : (c : ℕ) → u.copied ≡ Some c → ⊥
+  none_waits c at = (let wrong : None ≡ Some c = sym d.unmarked ∙ at in cc)
+
+  pub lost_copy_keeps : Steps e s k
+  lost_copy_keeps = moves_on e s k u (lock_at e k) (session (machine e) k) safe moves turned_stays refl refl refl refl
+      (record {
+        reads = λ j c p is ne within at. map_turned c p;
+        marks = λ j c p is ne copied hold. map_turned c p;
+        sparse = λ j c p is ne copied hold kept. file_turned c p kept;
+      })
+      (λ j ne. ap (λ ls. latch_of ls (sess j)) d.latches)
+      (subst IsLatchBook (sym d.latches) safe.whole.latches)
+      (λ p. (let same : pins s.pages p ≡ pins e.pages p = ap (λ (x : Pooled). pool_pins x p) d.turns.pool in omega (arith, same)))
+      (record {
+        seated = subst (λ (ls : Latches). IsSeated (counts e.pages) u (latch_of ls (sess k)) (lock_at e k)) (sym d.latches) my.seated;
+        beside = beside_stays e.pages s.pages turned_stays u (λ c p within at. map_turned c p) (λ c p copied hold. map_turned c p) (λ c p copied hold kept. absurd (none_waits c copied)) my.beside;
+        script = refl;
+        in_step = in_step_later e.pages u (session (machine e) k) (machine e).moment (machine s).moment moves.machine.later my.in_step;
+        aside = λ who snap restores. my.aside who snap (moves.machine.restores who snap restores);
+      })
+      (λ ds content. (
+        (content.1 k d.is).source,
+        reading_over s.pages (machine e) (machine s) u moves.machine.copies (reading_stays e.pages s.pages turned_stays (machine e) u (content.1 k d.is).reading),
+      ))

@@ -13,8 +13,8 @@ use Rattle.snap_pages.specs.Steps.{SamePlaces, ChangesSet}
 use Rattle.snap_pages.specs.Views.{KeepsViews}
 use Rattle.step_words.specs.declared.point.Point.TheVariants.{Change, Claim, Undo, Heal}
 use Rattle.step_words.specs.Seats.{Seated, Latched, Fetched}
-use Rattle.step_state.specs.State.{State, seat}
-use Rattle.step_state.specs.Moving.{MovesSeat}
+use Rattle.step_state.specs.State.{State, IsSession, seat}
+use Rattle.step_state.specs.Moving.{MovesSeat, TurnsSuspect, SaysTurned}
 
 -- who pushes a page holds its latch in EX: to change it, to claim on it, to set back what it changed, or to heal a copy of it
 pub data Pushes (x : Seated) (p : PageId) : Type 0 where
@@ -59,4 +59,17 @@ pub record DoesMark (e s : State) (k : ℕ) : Type 0 where
   pub copied : (seat e k).copied ≡ Some cut
   pub marks : Marks e.pages s.pages cut page
   pub moves : MovesSeat e s k (seat_copied (seat e k) None)
+  pub latches : s.latches ≡ e.latches
+
+-- the copy fails: the snapshot turns suspect, and no mark comes
+pub record DoesLoseCopy (e s : State) (k : ℕ) : Type 0 where
+  pub is : IsSession e k
+  pub page : PageId
+  pub pushes : Pushes (seat e k) page
+  pub unmarked : (seat e k).copied ≡ None
+  pub place : SnapNo
+  pub due : IsFirstDue e.pages page place
+  pub turns : TurnsSuspect e.pages s.pages place
+  pub says : SaysTurned e s place
+  pub seats : s.seats ≡ e.seats
   pub latches : s.latches ≡ e.latches

@@ -8,3 +8,4 @@ pub mod SameLemmas
 pub mod KeptLemmas
 pub mod MoveLemmas
 pub mod ApartLemmas
+pub mod TurnLemmas

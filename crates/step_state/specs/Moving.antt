@@ -1,16 +1,17 @@
 -- What steps have in common that change no page of the source: a session has another seat, and all see what they saw.
-use Rattle.std.specs.Prelude.{ℕ, ◌≡◌, ◌≢◌, ◌⊎◌, ◌+◌, ◌≤◌, true, false, IsTrue, List, length, map, Option, Some}
+use Rattle.std.specs.Prelude.{ℕ, ◌≡◌, ◌≢◌, ◌⊎◌, ◌+◌, ◌≤◌, true, false, IsTrue, List, [], ◌∷◌, ◌++◌, length, map, Option, Some}
 use Rattle.page_base.specs.declared.numbers.Mode.{Mode}
 use Rattle.page_base.specs.declared.numbers.PageId.{PageId}
 use Rattle.page_base.specs.declared.numbers.SnapNo.{SnapNo}
 use Rattle.lock_book.specs.Locks.{IsLockBook}
-use Rattle.plain_model.specs.Legal.{Legal}
+use Rattle.plain_model.specs.declared.event.Event.TheVariants.{Turned}
+use Rattle.plain_model.specs.Legal.{Legal, MayCome}
 use Rattle.plain_model.specs.State.{Plain, Session, session, committed, copy}
 use Rattle.page_tables.specs.Owners.{is_there}
 use Rattle.sparse_set.specs.Sparse.{is_copied}
-use Rattle.snap_cat.specs.Catalog.{IsCatalog, snap_at}
+use Rattle.snap_cat.specs.Catalog.{IsCatalog, snap_at, with_state}
 use Rattle.snap_cat.specs.declared.snapshot.SnapState.TheVariants.{Suspect}
-use Rattle.snap_pages.specs.Shown.{Shown, catalog, counts, img, pins, set_of, state_of, owes_of, cut_of}
+use Rattle.snap_pages.specs.Shown.{Shown, catalog, counts, img, pins, set_of, state_of, owes_of, cut_of, IsOpen}
 use Rattle.snap_pages.specs.Steps.{SamePlaces}
 use Rattle.snap_pages.specs.Views.{KeepsViews}
 use Rattle.step_words.specs.Seats.{Seated, with_seat}
@@ -71,3 +72,23 @@ pub record MovesOn (e s : State) (k : ℕ) (x : Seated) (held : ℕ → Option M
 -- the pins go with what the session holds
 abbrev pub MovesPins : Shown → Shown → Seated → Seated → Type 0
 MovesPins old new x y = (p : PageId) → pins new p + seat_pins x p ≡ pins old p + seat_pins y p
+
+-- A snapshot turns suspect. Of its sparse files it may have lost pages that no view shows by now; its map is the same, and so
+-- are the source's pages and all other snapshots.
+pub record TurnsSuspect (old new : Shown) (n : SnapNo) : Type 0 where
+  pub opened : IsOpen old n
+  pub pool : new.pool ≡ old.pool
+  pub cat : catalog new ≡ with_state (catalog old) n Suspect
+  pub many : length new.sets ≡ length old.sets
+  pub others : (m : SnapNo) → m ≢ n → set_of new m ≡ set_of old m
+  pub map : (set_of new n).map ≡ (set_of old n).map
+  pub counts : (set_of new n).files.counts ≡ (set_of old n).files.counts
+  pub places : SamePlaces old new
+  pub views : KeepsViews old new
+
+-- which is said in the history, and no more
+pub record SaysTurned (e s : State) (n : SnapNo) : Type 0 where
+  pub comes : MayCome (machine e) (Turned (snap_at (catalog e.pages) n).name)
+  pub events : s.events ≡ e.events ++ Turned (snap_at (catalog e.pages) n).name ∷ []
+  pub locks : s.locks ≡ e.locks
+  pub fixed : s.fixed ≡ e.fixed
