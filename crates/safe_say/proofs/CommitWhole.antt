@@ -27,7 +27,7 @@ use Rattle.step_state.specs.State.{State, Fixed, IsSession, sess, seat, works, m
 use Rattle.step_state.specs.Holding.{lock_at}
 use Rattle.step_state.specs.Snapshots.{IsBeside, HoldsEx}
 use Rattle.step_state.specs.Posed.{FitsGrip, is_making, IsPosed}
-use Rattle.step_state.specs.Own.{IsSeated, IsInStep, IsAside, IsSafeSession, making_in, is_gone}
+use Rattle.step_state.specs.Own.{IsSeated, IsInStep, IsAside, IsSafeSession, making_in, is_gone, IsPlaced}
 use Rattle.step_state.specs.Whole.{IsWholeSafe, grip_pin, gathered_on, seat_pins, seats_pins, snaps_pins}
 use Rattle.step_state.specs.Safe.{Safe}
 use Rattle.step_state.specs.Steps.{Guards}
@@ -190,6 +190,7 @@ module _ (e s : State) (k : ℕ) (safe : Safe e) (d : DoesCommit e s k) where
     seated = subst (λ x. IsSeated (counts s.pages) x (latch_of s.latches (sess k)) (lock_at s k)) (sym now)
         (seated_same (counts e.pages) (counts s.pages) y (latch_of e.latches (sess k)) (latch_of s.latches (sess k)) (lock_at s k) (lock_at s k) d.places.counts (ap (λ ls. latch_of ls (sess k)) d.latches) refl seated_now);
     beside = subst (IsBeside s.pages) (sym now) beside_now;
+    placed = subst (λ (f : Fixed). IsPlaced (seat s k) f.opening.source) (sym d.fixed) (subst (λ x. IsPlaced x e.fixed.opening.source) (sym now) me.placed);
     script = ap (λ (x : Seated). x.sitting.script) now ∙ me.script ∙ ap (λ ss. slice_index_or ss (k - 1) []) (sym its.scripts);
     in_step = subst (λ x. IsInStep s.pages x (session (machine s) k) (machine s).moment) (sym now) in_step_now;
     aside = λ who snap restores. subst (λ (f : Fixed). IsAside (seat s k) (lock_at s k) f.opening.source snap) (sym d.fixed) (subst (λ x. IsAside x (lock_at s k) e.fixed.opening.source snap) (sym now) (aside_now who snap restores));

@@ -24,7 +24,7 @@ use Rattle.step_state.specs.State.{State, Fixed, IsSession, sess, seat, works, m
 use Rattle.step_state.specs.Holding.{lock_at, HasLocks}
 use Rattle.step_state.specs.Snapshots.{IsBeside, HoldsEx, name_by, page_read}
 use Rattle.step_state.specs.Posed.{FitsGrip, lacks_course, lacks_work, is_making, IsOnCourse, IsPosed}
-use Rattle.step_state.specs.Own.{IsSeated, IsInStep, IsSafeSession, making_in, is_between, is_gone, page_at}
+use Rattle.step_state.specs.Own.{IsSeated, IsInStep, IsSafeSession, making_in, is_between, is_gone, page_at, IsPlaced}
 use Rattle.page_tables.specs.Owners.{is_there}
 use Rattle.step_state.specs.Safe.{Safe}
 use Rattle.step_state.specs.Steps.{Steps, Quietly}
@@ -148,6 +148,7 @@ module _ (e s : State) (k : ℕ) (safe : Safe e) (d : DoesCut e s k) where
     seated = subst (λ x. IsSeated (counts s.pages) x (latch_of s.latches (sess k)) (lock_at s k)) (sym (now e s k safe d))
         (seated_same (counts e.pages) (counts s.pages) y (latch_of e.latches (sess k)) (latch_of s.latches (sess k)) (lock_at e k) (lock_at s k) (files_same e s k safe d) (ap (λ ls. latch_of ls (sess k)) d.latches) (held_same e s k safe d k) seated_now);
     beside = subst (IsBeside s.pages) (sym (now e s k safe d)) beside_now;
+    placed = subst (λ (f : Fixed). IsPlaced (seat s k) f.opening.source) (sym d.fixed) (subst (λ x. IsPlaced x e.fixed.opening.source) (sym (now e s k safe d)) me.placed);
     script = ap (λ (x : Seated). x.sitting.script) (now e s k safe d) ∙ me.script ∙ ap (λ (m : Plain). slice_index_or m.scripts (k - 1) []) (sym (history e s k safe d));
     in_step = subst (λ x. IsInStep s.pages x (session (machine s) k) (machine s).moment) (sym (now e s k safe d)) in_step_now;
     aside = λ who snap restores. absurd (let wrong : None ≡ Some (who, snap) = sym (no_revert e s k safe d) ∙ restores in cc);

@@ -12,7 +12,7 @@ use Rattle.latch_book.specs.Latches.{latch_of, IsLatchBook}
 use Rattle.lock_book.specs.Locks.{lock_of, IsLockBook}
 use Rattle.plain_model.specs.declared.event.Event.TheVariants.{CutAt}
 use Rattle.plain_model.specs.Legal.{after, new_names}
-use Rattle.plain_model.specs.State.{Plain, Session, Snap as PlainSnap, session, stmt_of, is_session, fresh_session}
+use Rattle.plain_model.specs.State.{Plain, Session, Snap as PlainSnap, session, stmt_of, is_session, fresh_session, master}
 use Rattle.plain_steps.proofs.AfterLemmas.{others_are}
 use Rattle.rec_log.specs.Records.{Record}
 use Rattle.sparse_set.specs.Sparse.{Sparse, is_copied, sparse_page}
@@ -114,6 +114,7 @@ module _ (e s : State) (k : ℕ) (safe : Safe e) (d : DoesCut e s k) where
     locks = subst IsLockBook (sym d.locks) safe.whole.locks;
     sessions = as_many ∙ safe.whole.sessions ∙ ap (λ (f : Fixed). length f.scripts) (sym d.fixed);
     few = omega (arith, as_many, safe.whole.few);
+    named = subst (λ (f : Fixed). f.opening.source ≢ master) (sym d.fixed) safe.whole.named;
     pinned = pins_due;
     paid = λ n there online. elim (old_or_new e s k safe d n there) [
       | inl old ↦ ap (λ (x : Snap). x.owed.recs) (old_snap e s k safe d n old) ∙ safe.whole.paid n old (sym (ap (λ (x : Snap). x.state) (old_snap e s k safe d n old)) ∙ online)

@@ -56,26 +56,6 @@ use Rattle.step_words.specs.declared.stage.Stage.TheVariants.{AskAll, ScanZero, 
 use Rattle.step_words.specs.Courses.{is_planned, is_past_all, is_past_table}
 
 
--- while somebody reverts to a snapshot there is no other: who is in one is in that
-pub only_snap : (e : State) (k : ℕ) → Safe e → IsSession e k → (who : ℕ) (snap : List ℕ) → (machine e).restoring ≡ Some (who, snap) → (cut : ℕ) → (seat e k).sitting.within ≡ Some cut → (seat e k).sitting.current ≡ snap
-only_snap e k safe is who snap restores cut within =
-    let named = ((safe.sessions k is).beside.named cut within).1 in
-    let only = safe.whole.reverts who snap restores in
-    by_place e.pages cut
-    (λ n at.
-    let place = place_some e.pages cut n at in
-    let first : n ≡ record { 0 = 0 } = (let zero_is : n.0 ≡ 0 = omega (arith, place.there, only.only) in λ i. record { 0 = zero_is i }) in
-    let its : name_by e.pages cut ≡ Some (snap_at (catalog e.pages) n).name = ap (λ (o : Option SnapNo). option_map (λ (f : SnapEntry × Sparse). f.0.name) (option_map (λ (m : SnapNo). (snap_at (catalog e.pages) m, set_of e.pages m)) o)) at in
-    some_name (seat e k).sitting.current snap (sym named ∙ its ∙ ap (λ m. Some (snap_at (catalog e.pages) m).name) first ∙ ap (λ m. Some m) only.named))
-    (λ none. absurd (let wrong : None ≡ Some (seat e k).sitting.current = sym (ap (λ (o : Option SnapNo). option_map (λ (f : SnapEntry × Sparse). f.0.name) (option_map (λ (m : SnapNo). (snap_at (catalog e.pages) m, set_of e.pages m)) o)) none) ∙ named in cc))
-  where
-    some_name : (a b : List ℕ) → Some a ≡ Some b → a ≡ b
-    some_name a b e = ap pick e
-      where
-        pick : Option (List ℕ) → List ℕ
-        pick None = a
-        pick (Some x) = x
-
 -- whatever holds of where a statement begins: at a lock in the source, at a latch in a snapshot
 by_begins : (P : Stage → Point → Type 0) (e : State) (k : ℕ) (stmt : Stmt) (kind : DbKind) → BeginsIn e k stmt kind
     → P AskAll (Lock All (record { 0 = 0 }) (first_mode stmt)) → P (ScanZero zero_root) (Latch zero_root false) → P (first_stage kind) (point_for (seat e k).sitting.depth (course_begun stmt kind))
@@ -252,7 +232,7 @@ module _ (e s : State) (k : ℕ) (safe : Safe e) (d : DoesBegin e s k) where
 
       by : (kind : DbKind) → BeginsIn e k d.stmt kind → ⊥
       by kind (InSource within current early) = aside.away.0 current
-      by kind (InSnap cut within select sound) = aside.away.1 (only_snap e k safe d.moves.is who snap restores cut within)
+      by kind (InSnap cut within select sound) = (let wrong : None ≡ Some cut = sym aside.away.1 ∙ within in cc)
 
   pub begin_keeps : Steps e s k
   begin_keeps = seat_moves e s k y safe d.moves (stays_put e.pages s.pages d.pages) (ap (λ (v : Shown). map snap_told (catalog v).snaps) d.pages) refl refl refl refl refl
@@ -267,7 +247,7 @@ module _ (e s : State) (k : ℕ) (safe : Safe e) (d : DoesBegin e s k) where
       (record {
         seated = subst (λ (ls : Latches). IsSeated files_e y (latch_of ls (sess k)) (lock_at e k)) (sym d.latches) seated_now;
         beside = subst (λ (v : Shown). IsBeside v y) (sym d.pages) beside_now;
-        script = refl;
+        placed = me.placed; script = refl;
         in_step = in_step_now;
         aside = λ who snap restores. absurd (no_restore who snap restores);
       })

@@ -190,13 +190,6 @@ module _ (e s : State) (k : ℕ) (safe : Safe e) (d : DoesLatch e s k) where
       let enough = (me.seated.holding c has source).all past in
       (let wrong : false ≡ true = ap (λ o. suffices o (first_mode c.stmt)) (sym (none 0)) ∙ enough in cc)
 
-  some_name : (a b : List ℕ) → Some a ≡ Some b → a ≡ b
-  some_name a b e = ap pick e
-    where
-      pick : Option (List ℕ) → List ℕ
-      pick None = a
-      pick (Some x) = x
-
   no_restore : (who : ℕ) (snap : List ℕ) → (machine e).restoring ≡ Some (who, snap) → ⊥
   no_restore who snap restores = by d.mode d.next d.needs
     where
@@ -204,16 +197,7 @@ module _ (e s : State) (k : ℕ) (safe : Safe e) (d : DoesLatch e s k) where
       aside = me.aside who snap restores
 
       in_snap : (cut : ℕ) → (seat e k).sitting.within ≡ Some cut → ⊥
-      in_snap cut within =
-          let named = (me.beside.named cut within).1 in
-          by_place e.pages cut
-          (λ n at.
-          let place = place_some e.pages cut n at in
-          let only = safe.whole.reverts who snap restores in
-          let first : n ≡ record { 0 = 0 } = (let zero_is : n.0 ≡ 0 = omega (arith, place.there, only.only) in λ i. record { 0 = zero_is i }) in
-          let its : name_by e.pages cut ≡ Some (snap_at (catalog e.pages) n).name = ap (λ (o : Option SnapNo). option_map (λ (f : SnapEntry × Sparse). f.0.name) (option_map (λ (m : SnapNo). (snap_at (catalog e.pages) m, set_of e.pages m)) o)) at in
-          aside.away.1 (some_name (seat e k).sitting.current snap (sym named ∙ its ∙ ap (λ m. Some (snap_at (catalog e.pages) m).name) first ∙ ap (λ m. Some m) only.named)))
-          (λ none. (let wrong : None ≡ Some (seat e k).sitting.current = sym (ap (λ (o : Option SnapNo). option_map (λ (f : SnapEntry × Sparse). f.0.name) (option_map (λ (m : SnapNo). (snap_at (catalog e.pages) m, set_of e.pages m)) o)) none) ∙ named in cc))
+      in_snap cut within = (let wrong : None ≡ Some cut = sym aside.away.1 ∙ within in cc)
 
       by : (mode : LatchMode) (next : Point) → NeedsLatch e.pages (seat e k) d.page mode next → ⊥
       by mode next (VisitsSource c at has source visit) = lock_needed c has source (visits_past c.stage d.page visit) aside.locks
@@ -259,5 +243,5 @@ module _ (e s : State) (k : ℕ) (safe : Safe e) (d : DoesLatch e s k) where
       (λ j ne. ap (λ ls. latch_of ls (sess j)) d.latches ∙ latch_of-with_latch e.latches (sess k) (sess j) d.page d.mode (λ same. ne (ap (λ (w : SessNo). w.0) same)))
       (subst IsLatchBook (sym d.latches) (IsLatchBook-with_latch e.latches (sess k) d.page d.mode safe.whole.latches is_latcher d.granted))
       (λ p. (let same : pins s.pages p ≡ pins e.pages p = ap (λ (v : Shown). pins v p) d.pages in let free : seat_pins (seat e k) p ≡ seat_pins y p = ap (λ (h : Grip). grip_pin h p + (gathered_on (seat e k).gathered p + count_on (seat e k).work.recs p)) d.free in omega (arith, same, free)))
-      (record { seated = seated_now; beside = subst (λ (v : Shown). IsBeside v y) (sym d.pages) beside_now; script = refl; in_step = in_step_now; aside = λ who snap restores. absurd (no_restore who snap restores) })
+      (record { seated = seated_now; beside = subst (λ (v : Shown). IsBeside v y) (sym d.pages) beside_now; placed = me.placed; script = refl; in_step = in_step_now; aside = λ who snap restores. absurd (no_restore who snap restores) })
       (λ ds content. (source_now ds content, reading_now ds content))

@@ -173,7 +173,7 @@ module _ (e s : State) (k : ℕ) (safe : Safe e) (d : DoesLook e s k) where
       (record {
         seated = subst (λ (ls : Latches). IsSeated files_e y (latch_of ls (sess k)) (lock_at e k)) (sym d.latches) seated_now;
         beside = subst (λ (v : Shown). IsBeside v y) (sym d.pages) beside_now;
-        script = refl;
+        placed = me.placed; script = refl;
         in_step = in_step_now;
         aside = λ who snap restores. (let old = me.aside who snap restores in absurd (let wrong : Latched d.page Sh ≡ Free = sym hold ∙ old.latch in cc));
       })

@@ -153,7 +153,7 @@ module _ (e s : State) (k : ℕ) (safe : Safe e) (d : DoesPass e s k) where
       (record {
         seated = subst (λ l. IsSeated files_e y l (lock_at e k)) (sym latch_gone) seated_now;
         beside = beside_stays e.pages s.pages stays y (λ c p within at. map_same c p) (λ c p copied hold. map_same c p) (λ c p copied hold kept. file_same c p) beside_before;
-        script = refl;
+        placed = me.placed; script = refl;
         in_step = in_step_now;
         aside = λ who snap restores. (let old = me.aside who snap restores in absurd (let wrong : Fetched d.page Ex ≡ Free = sym d.hold ∙ old.latch in cc));
       })

@@ -169,7 +169,7 @@ module _ (e s : State) (k : ℕ) (safe : Safe e) (d : DoesReadCopy e s k) where
       (record {
         seated = subst (λ (ls : Latches). IsSeated files_e y (latch_of ls (sess k)) (lock_at e k)) (sym d.latches) seated_now;
         beside = beside_stays e.pages s.pages stays y (λ c p within at. map_same c p) (λ c p copied hold. map_same c p) (λ c p copied hold kept. file_same c p kept) beside_before;
-        script = refl;
+        placed = me.placed; script = refl;
         in_step = in_step_now;
         aside = λ who snap restores. (let old = me.aside who snap restores in absurd (let wrong : Latched d.page Sh ≡ Free = sym d.hold ∙ old.latch in cc));
       })

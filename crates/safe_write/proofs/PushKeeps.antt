@@ -206,6 +206,7 @@ module _ (e s : State) (k : ℕ) (safe : Safe e) (d : DoesCopy e s k) where
         seated = subst (λ (ls : Latches). IsSeated (counts e.pages) y (latch_of ls (sess k)) (lock_at e k)) (sym d.latches)
             (seated_copied (counts e.pages) (seat e k) (latch_of e.latches (sess k)) (lock_at e k) (Some (cut_of e.pages d.place)) (pushes_held (seat e k) d.page d.pushes) me.seated);
         beside = beside_now;
+        placed = me.placed;
         script = refl;
         in_step = in_step_copied e s k safe (Some (cut_of e.pages d.place)) d.moves.is;
         aside = λ who snap restores. absurd (pushes_held (seat e k) d.page d.pushes (me.aside who snap restores).latch);
@@ -286,6 +287,7 @@ module _ (e s : State) (k : ℕ) (safe : Safe e) (d : DoesMark e s k) where
         seated = subst (λ (ls : Latches). IsSeated (counts e.pages) w (latch_of ls (sess k)) (lock_at e k)) (sym d.latches)
             (seated_copied (counts e.pages) (seat e k) (latch_of e.latches (sess k)) (lock_at e k) None (pushes_held (seat e k) d.page d.pushes) us.seated);
         beside = beside_stays e.pages s.pages shown_stays w (λ c p within at. absurd (pushes_reads (seat e k) d.page p d.pushes at)) (λ c p copied hold. cc) (λ c p copied hold kept. cc) beside_before;
+        placed = us.placed;
         script = refl;
         in_step = in_step_copied e s k safe None d.moves.is;
         aside = λ who snap restores. absurd (pushes_held (seat e k) d.page d.pushes (us.aside who snap restores).latch);
@@ -317,7 +319,7 @@ module _ (e s : State) (k : ℕ) (safe : Safe e) (d : DoesLoseCopy e s k) where
   none_waits c at = (let wrong : None ≡ Some c = sym d.unmarked ∙ at in cc)
 
   pub lost_copy_keeps : Steps e s k
-  lost_copy_keeps = moves_on e s k u (lock_at e k) (session (machine e) k) safe moves turned_stays refl refl refl refl
+  lost_copy_keeps = moves_on e s k u (lock_at e k) (session (machine e) k) safe moves turned_stays (λ c in_it. in_it) refl refl refl
       (record {
         reads = λ j c p is ne within at. map_turned c p;
         marks = λ j c p is ne copied hold. map_turned c p;
@@ -329,6 +331,7 @@ module _ (e s : State) (k : ℕ) (safe : Safe e) (d : DoesLoseCopy e s k) where
       (record {
         seated = subst (λ (ls : Latches). IsSeated (counts e.pages) u (latch_of ls (sess k)) (lock_at e k)) (sym d.latches) my.seated;
         beside = beside_stays e.pages s.pages turned_stays u (λ c p within at. map_turned c p) (λ c p copied hold. map_turned c p) (λ c p copied hold kept. absurd (none_waits c copied)) my.beside;
+        placed = my.placed;
         script = refl;
         in_step = in_step_later e.pages u (session (machine e) k) (machine e).moment (machine s).moment moves.machine.later my.in_step;
         aside = λ who snap restores. my.aside who snap (moves.machine.restores who snap restores);

@@ -22,7 +22,7 @@ use Rattle.step_words.specs.Seats.{Seated}
 use Rattle.step_state.specs.State.{State, Fixed, IsSession, sess, seat, machine, alone_of, before_of}
 use Rattle.step_state.specs.Holding.{lock_at}
 use Rattle.step_state.specs.Snapshots.{IsBeside, name_by}
-use Rattle.step_state.specs.Own.{IsSeated, IsInStep, IsAside, IsSafeSession, making_in, is_between}
+use Rattle.step_state.specs.Own.{IsSeated, IsInStep, IsAside, IsSafeSession, making_in, is_between, IsPlaced}
 use Rattle.step_state.specs.Told.{IsToldSource, IsToldReading, IsTold, IsToldWhole}
 use Rattle.step_state.specs.Safe.{Safe, IsContent}
 use Rattle.step_state.specs.Steps.{Guards, LeavesQuiet, LeavesContent, Quietly, Each, Steps}
@@ -118,6 +118,7 @@ module _ (e s : State) (k : ℕ) (g : Guards e s k) (j : ℕ) (is : IsSession e 
       record {
         seated = t.0;
         beside = t.1;
+        placed = subst (λ (f : Fixed). IsPlaced (seat s j) f.opening.source) (sym g.fixed) (subst (λ x. IsPlaced x e.fixed.opening.source) (sym (g.seats j ne)) a.placed);
         script = ap (λ x. x.sitting.script) (g.seats j ne) ∙ a.script ∙ ap (λ ss. slice_index_or ss (j - 1) []) (sym g.scripts);
         in_step = t.2;
         aside = λ who snap restores. subst (λ (f : Fixed). IsAside (seat s j) (lock_at s j) f.opening.source snap) (sym g.fixed) (t.3 who snap restores);

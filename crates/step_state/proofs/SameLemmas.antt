@@ -10,7 +10,7 @@ use Rattle.page_base.specs.Pages.{blank}
 use Rattle.page_fmt.specs.Content.{IsPage}
 use Rattle.latch_book.specs.Latches.{IsLatchBook}
 use Rattle.lock_book.specs.Locks.{IsLockBook}
-use Rattle.plain_model.specs.State.{Plain, copy}
+use Rattle.plain_model.specs.State.{Plain, copy, master}
 use Rattle.plain_model.specs.Tables.{Tables}
 use Rattle.rec_log.specs.Undone.{undone}
 use Rattle.sparse_set.specs.Sparse.{Sparse, is_copied, sparse_page}
@@ -133,6 +133,7 @@ module _ (e s : State) (k : ℕ) (is : IsSession e k) (x : Seated) (whole : IsWh
     locks = locks;
     sessions = seats_many ∙ whole.sessions ∙ ap (λ (f : Fixed). length f.scripts) (sym fixed);
     few = omega (arith, seats_many, whole.few);
+    named = subst (λ (f : Fixed). f.opening.source ≢ master) (sym fixed) whole.named;
     pinned = λ p.
         let moved = ap (λ xs. seats_pins xs p) seats in
         let due = seat_pins_moved e.seats k x p is.first is.last in

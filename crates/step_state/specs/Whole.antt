@@ -65,6 +65,7 @@ pub record IsWholeSafe (e : State) : Type 0 where
   pub locks : IsLockBook e.locks
   pub sessions : length e.seats ≡ length e.fixed.scripts
   pub few : length e.seats ≤ 64
+  pub named : e.fixed.opening.source ≢ master
   -- the pins are those that are due
   pub pinned : (p : PageId) → pins e.pages p ≡ due_pins e p
   -- a snapshot that is in use owes nothing
