@@ -1,0 +1,121 @@
+//! What holds of trails and of what is left to do, as functions whose contracts say it.
+
+ghost use Rattle.std.specs.Prelude.{◌≡◌, ◌≢◌, ◌⊎◌, ◌↔◌, ℕ, ◌+◌, ◌≤◌, Bool, true, false, ◌||◌, List, [], ◌∷◌, ◌++◌, map, Option, Some, None};
+ghost use Rattle.std.specs.List.{Any, list_any};
+ghost use Rattle.page_base.specs.declared.numbers.PageId.{PageId};
+ghost use Rattle.page_base.specs.declared.numbers.SessNo.{SessNo};
+ghost use Rattle.page_dev.specs.Faults.{Rose};
+ghost use Rattle.page_tables.specs.Owners.{is_there};
+ghost use Rattle.plain_model.specs.declared.event.Event.{Event};
+ghost use Rattle.plain_model.specs.declared.event.Event.TheVariants as event;
+ghost use Rattle.plain_model.specs.declared.kind.Kind.{Kind};
+ghost use Rattle.plain_model.specs.declared.kind.Kind.TheVariants as kind;
+ghost use Rattle.plain_model.specs.declared.pick.Pick.{Pick};
+ghost use Rattle.plain_model.specs.declared.reply.Message.{Message};
+ghost use Rattle.plain_model.specs.declared.reply.Reply.TheVariants as reply;
+ghost use Rattle.step_words.specs.Seats.{Free};
+ghost use Rattle.step_state.specs.Own.{is_gone};
+ghost use Rattle.step_state.specs.Safe.{Safe};
+ghost use Rattle.step_state.specs.State.{State, IsSession, seat};
+ghost use Rattle.step_trail.specs.Counting.{count_pages};
+ghost use Rattle.step_trail.specs.Entries.{Did, Entry, Step, End, Sizes, book_of, events_in, has_left, is_leaving, kind_after, last_kind, present, present_after, staying};
+ghost use Rattle.step_trail.specs.Example.{small, reading, unlatched, unfailed};
+ghost use Rattle.step_trail.specs.Finished.{AreTried, IsRound, AreRounds, entries_in, Finished};
+ghost use Rattle.step_trail.specs.Kinds.{is_kind, follows, follows_last};
+ghost use Rattle.step_trail.specs.Left.{Left, IsBelow, Lowers};
+ghost use Rattle.step_trail.specs.Next.{kind_of};
+ghost use Rattle.step_trail.specs.Rose.{Counts, IsRisen, has_risen, names_snap, risen};
+ghost use Rattle.step_trail.specs.Scheduled.{IsAmid, IsBetween, IsLast, IsOver, Scheduled, Takes, entries_of};
+ghost use Rattle.step_trail.specs.Walked.{IsEnd, IsEntry, IsExplained, IsStep, Walked};
+
+/// What a step names by its counts are the objects whose count rose in it.
+pub fn what_rose_is_named()
+    ensures counts { (before now : ℕ) → has_risen before now ≡ true ↔ Rose before now }
+    ensures snaps { (before now : Counts) (name : List ℕ) → names_snap (risen before now) name ≡ true ↔ IsRisen before now name }
+{}
+
+/// The test of kinds tells them apart.
+pub fn kinds_are_told_apart()
+    ensures { (a b : Kind) → is_kind a b ≡ true → a ≡ b }
+{}
+
+/// Behind a reply by itself come the next statement, the session's leaving, or a latch to take its transaction back; behind
+/// leaving comes nothing; a session begins with a statement or leaves; and it never does the flusher's step.
+pub fn a_reply_ends_a_statement()
+    ensures said { (b : Kind) → follows kind.Say b ≡ true → (b ≡ kind.Latch) ⊎ ((b ≡ kind.Start) ⊎ (b ≡ kind.Leave)) }
+    ensures left { (b : Kind) → follows kind.Leave b ≡ false }
+    ensures first { (b : Kind) → follows_last None b ≡ true → (b ≡ kind.Start) ⊎ (b ≡ kind.Leave) }
+    ensures flusher { (a : Kind) → follows a kind.Flush ≡ false }
+{}
+
+/// A trail goes on with a step, or with the end of a pick, exactly where that may stand behind its entries; and each front of a
+/// trail is one.
+pub fn a_trail_goes_on()
+    ensures step { (z : Sizes) (es : List Entry) (d : Did) (book : List Event) → Walked z es book → IsStep z es d → Walked z (es ++ Step d ∷ []) (book ++ d.events) }
+    ensures end { (z : Sizes) (es : List Entry) (who : ℕ) (next : Option Kind) (book : List Event) → Walked z es book → IsEnd z es who next → Walked z (es ++ End who next ∷ []) book }
+    ensures none { (z : Sizes) → Walked z [] [] }
+    ensures each { (z : Sizes) (es : List Entry) (e : Entry) (fs : List Entry) (book : List Event) → Walked z (es ++ e ∷ fs) book → IsEntry z es e }
+    ensures front { (z : Sizes) (es fs : List Entry) (book : List Event) → Walked z (es ++ fs) book → Walked z es (book_of es) }
+{}
+
+/// What a trail tells of a session is told anew by one more entry: its last kind, the steps of its present statement, and whether
+/// it has left.
+pub fn what_a_session_did_moves_by_one()
+    ensures kind { (k : ℕ) (es : List Entry) (e : Entry) → last_kind k (es ++ e ∷ []) ≡ kind_after k (last_kind k es) e }
+    ensures present { (k : ℕ) (es : List Entry) (e : Entry) → present k (es ++ e ∷ []) ≡ present_after k (present k es) e }
+    ensures left { (k : ℕ) (es : List Entry) (e : Entry) → has_left k (es ++ e ∷ []) ≡ (has_left k es || list_any (is_leaving k) (events_in e)) }
+{}
+
+/// In a trail a refusal has its cause among the steps of its statement, up to the one that says it.
+pub fn a_refusal_has_its_cause()
+    ensures { (z : Sizes) (es : List Entry) (d : Did) (fs : List Entry) (book : List Event) (who : SessNo) (number began : ℕ) (m : Message) → Walked z (es ++ Step d ∷ fs) book → Any (λ (e : Event). e ≡ event.Said who number began (reply.Msg m)) d.events → IsExplained z (present d.who es ++ d ∷ []) m.number }
+{}
+
+/// A pick begins without steps, goes on with a step that doesn't end it, and ends with one that does, or where it is over; and a
+/// schedule goes on by the entries of one more pick.
+pub fn a_schedule_goes_pick_by_pick()
+    ensures begins { (pick : Pick) → IsAmid pick [] }
+    ensures goes_on { (pick : Pick) (dids : List Did) (d : Did) → IsAmid pick dids → d.who ≡ pick.who → IsBetween pick.until d → IsAmid pick (dids ++ d ∷ []) }
+    ensures ends { (pick : Pick) (dids : List Did) (d : Did) (next : Option Kind) → IsAmid pick dids → d.who ≡ pick.who → IsLast pick.until d → Takes pick (dids ++ d ∷ []) next }
+    ensures stops { (pick : Pick) (dids : List Did) (next : Option Kind) → IsAmid pick dids → IsOver pick.until dids next → Takes pick dids next }
+    ensures more { (picks : List Pick) (es : List Entry) (pick : Pick) (dids : List Did) (next : Option Kind) → Scheduled picks es → Takes pick dids next → Scheduled (picks ++ pick ∷ []) (es ++ entries_of pick dids next) }
+    ensures joined { (ps qs : List Pick) (es fs : List Entry) → Scheduled ps es → Scheduled qs fs → Scheduled (ps ++ qs) (es ++ fs) }
+{}
+
+/// A round begins with nobody tried, goes on while nobody goes, and ends with the first who does; a run ends in rounds once all
+/// have left.
+pub fn a_run_ends_in_rounds()
+    ensures begins { (whos : List ℕ) → AreTried whos [] whos }
+    ensures goes_on { (whos : List ℕ) (busy : List Did) (d : Did) (rest : List ℕ) → AreTried whos busy (d.who ∷ rest) → d.went ≡ false → AreTried whos (busy ++ d ∷ []) rest }
+    ensures ends { (whos : List ℕ) (busy : List Did) (d : Did) (rest : List ℕ) → AreTried whos busy (d.who ∷ rest) → d.went ≡ true → IsRound whos (busy ++ d ∷ []) }
+    ensures more { (sessions : ℕ) (before : List Entry) (rs : List (List Did)) (r : List Did) → AreRounds sessions before rs → IsRound (staying sessions (before ++ entries_in rs)) r → AreRounds sessions before (rs ++ r ∷ []) }
+    ensures entries { (rs : List (List Did)) (r : List Did) → entries_in (rs ++ r ∷ []) ≡ entries_in rs ++ map Step r }
+    ensures over { (sessions : ℕ) (before : List Entry) (rs : List (List Did)) → AreRounds sessions before rs → staying sessions (before ++ entries_in rs) ≡ [] → Finished sessions before (entries_in rs) }
+{}
+
+/// What is left to do isn't below itself, is compared through a third, and can't fall for ever.
+pub fn what_is_left_falls()
+    ensures apart { (e : State) → Lowers e e → ⊥ }
+    ensures through { (e s t : State) → Lowers e s → Lowers s t → Lowers e t }
+    ensures ends { (f : ℕ → Left) → ((n : ℕ) → IsBelow (f (n + 1)) (f n)) → ⊥ }
+{}
+
+/// Where one page less passes a test, one less is counted; and where no other passes, no more are.
+pub fn counts_of_pages_fall()
+    ensures one { (t u : PageId → Bool) (p : PageId) → t p ≡ true → u p ≡ false → ((q : PageId) → q ≢ p → u q ≡ t q) → (files : List ℕ) → is_there files p ≡ true → count_pages files t ≡ count_pages files u + 1 }
+    ensures fewer { (t u : PageId → Bool) → ((q : PageId) → u q ≡ true → t q ≡ true) → (files : List ℕ) → count_pages files u ≤ count_pages files t }
+{}
+
+/// A session has no next step exactly where it has left; and who needs a latch next holds none.
+pub fn who_is_gone_has_no_step()
+    ensures gone { (e : State) (k : ℕ) → IsSession e k → kind_of e k ≡ None ↔ is_gone (seat e k).sitting.point ≡ true }
+    ensures latch { (e : State) (k : ℕ) → Safe e → IsSession e k → kind_of e k ≡ Some kind.Latch → (seat e k).hold ≡ Free }
+{}
+
+/// The steps of a SELECT are a trail; a page that is brought in without its latch is in none, and neither is a failure of the log
+/// that no step names.
+pub fn an_example_is_a_trail()
+    ensures reading { Walked small reading (book_of reading) }
+    ensures unlatched { (book : List Event) → Walked small unlatched book → ⊥ }
+    ensures unfailed { (book : List Event) → Walked small unfailed book → ⊥ }
+{}
