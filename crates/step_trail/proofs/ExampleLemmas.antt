@@ -5,7 +5,7 @@ use Rattle.plain_model.specs.declared.event.Event.{Event}
 use Rattle.plain_model.specs.declared.kind.Kind.{Kind}
 use Rattle.step_trail.specs.Entries.{Did, Entry, book_of, present}
 use Rattle.step_trail.specs.Walked.{IsEntered, IsCaused, IsStep, Walked, may_come, ends_well}
-use Rattle.step_trail.specs.Example.{small, none_rose, reading, unlatched, unfailed}
+use Rattle.step_trail.specs.Example.{small, none_rose, reading, unlatched, unended, unfailed}
 
 abbrev did : Kind → List Event → Did
 did kind events = record { who = 1; kind = kind; went = true; events = events; rose = none_rose }
@@ -72,3 +72,6 @@ unlatched_not book w = (let bad : false ≡ true = w.each.1.1.0.kind in cc)
 
 pub unfailed_not : (book : List Event) → Walked small unfailed book → ⊥
 unfailed_not book w = (let bad : false ≡ true = w.each.1.0.causes.0.log refl in cc)
+
+pub unended_not : (book : List Event) → Walked small unended book → ⊥
+unended_not book w = (let bad : false ≡ true = w.each.1.1.1.0.kind in cc)

@@ -8,3 +8,7 @@ pub mod ExampleLemmas
 pub mod RoseLemmas
 pub mod CountingLemmas
 pub mod MoveLemmas
+pub mod LowerLemmas
+pub mod AnswerLemmas
+pub mod ReachLemmas
+pub mod TraceLemmas

@@ -11,12 +11,15 @@ use Rattle.plain_model.specs.declared.event.Event.TheVariants.{Said}
 use Rattle.plain_model.specs.declared.kind.Kind.{Kind}
 use Rattle.plain_model.specs.declared.reply.Message.{Message}
 use Rattle.plain_model.specs.declared.reply.Reply.TheVariants.{Msg}
-use Rattle.step_trail.specs.Entries.{Did, Entry, Step, End, Sizes, book_of, events_in, has_left, is_leaving, kind_after, last_kind, present, present_after}
+use Rattle.step_trail.specs.Entries.{Did, Entry, Step, End, Sizes, book_of, events_in, has_left, is_leaving, kind_after, last_kind, Between, phase_after, phase_of, present, present_after}
 use Rattle.step_trail.specs.Walked.{IsCaused, IsEnd, IsExplained, Walked}
 use Rattle.step_trail.proofs.EachLemmas.{book_more, walked_at, walked_more}
 
 pub kind_more : (k : ℕ) (es : List Entry) (e : Entry) → last_kind k (es ++ e ∷ []) ≡ kind_after k (last_kind k es) e
 kind_more k es e = fold-append (kind_after k) None es (e ∷ [])
+
+pub phase_more : (k : ℕ) (es : List Entry) (e : Entry) → phase_of k (es ++ e ∷ []) ≡ phase_after k (phase_of k es) e
+phase_more k es e = fold-append (phase_after k) Between es (e ∷ [])
 
 pub present_more : (k : ℕ) (es : List Entry) (e : Entry) → present k (es ++ e ∷ []) ≡ present_after k (present k es) e
 present_more k es e = fold-append (present_after k) [] es (e ∷ [])

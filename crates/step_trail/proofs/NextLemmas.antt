@@ -1,9 +1,10 @@
 -- Which session has no next step, and which one's next step takes a latch.
-use Rattle.std.proofs.Common.{◌≡◌, ◌≢◌, ◌↔◌, inl, inr, ℕ, zero, suc, Bool, true, false, refl, arith}
+use Rattle.std.proofs.Common.{◌≡◌, ◌≢◌, ◌⊎◌, inl, inr, ◌↔◌, ℕ, zero, suc, Bool, true, false, refl, ap, ◌∙◌, arith}
 use Rattle.std.specs.Prelude.{Option, Some, None, is_some}
 use Rattle.std.proofs.lemmas.Bool.{cases_Bool}
 use Rattle.page_base.specs.declared.numbers.PageId.{PageId}
 use Rattle.page_fmt.specs.Content.{content}
+use Rattle.latch_book.specs.Latches.{latch_of}
 use Rattle.plain_model.specs.declared.kind.Kind.{Kind}
 use Rattle.plain_model.specs.declared.kind.Kind.TheVariants as step
 use Rattle.snap_pages.specs.Cuts.{marked_by, is_sound_by}
@@ -12,11 +13,11 @@ use Rattle.snap_pages.specs.Shown.{Shown, img}
 use Rattle.step_words.specs.declared.point.Point.{Point}
 use Rattle.step_words.specs.declared.point.Point.TheVariants.{Start, Latch, Take, Claim, Change, Undo, Heal, Gone}
 use Rattle.step_words.specs.Sittings.{stmt_at}
-use Rattle.step_words.specs.Seats.{Seated, Grip, Free, Latched, Fetched}
+use Rattle.step_words.specs.Seats.{Seated, Grip, Free, Latched, Fetched, latch_at}
 use Rattle.step_state.specs.Own.{is_gone}
 use Rattle.step_state.specs.Posed.{FitsGrip}
 use Rattle.step_state.specs.Safe.{Safe}
-use Rattle.step_state.specs.State.{State, IsSession, seat}
+use Rattle.step_state.specs.State.{State, IsSession, sess, seat}
 use Rattle.step_trail.specs.Next.{once_pushed, has_free, kind_claiming, kind_undoing, healed, kind_healing, kind_making, kind_at, kind_of}
 
 -- once a statement is left, or not
@@ -75,7 +76,7 @@ make_free v x (Some cut) e = elim (cases_Bool (is_sound_by v cut)) [
   | inr not ↦ (let h = rw not at e in absurd (cc))
 ]
 
-of_some : (a b : Kind) → Some a ≡ Some b → a ≡ b
+pub of_some : (a b : Kind) → Some a ≡ Some b → a ≡ b
 of_some a b e = cc
 
 pub latch_free : (v : Shown) (x : Seated) (p : Point) (found : Bool) → FitsGrip p found x.hold → kind_at v x p ≡ Some step.Latch → x.hold ≡ Free
@@ -97,3 +98,22 @@ latch_holds_none e (suc k) safe is latch =
 pub none_is_gone : (e : State) (k : ℕ) → IsSession e k → kind_of e k ≡ None ↔ is_gone (seat e k).sitting.point ≡ true
 none_is_gone e zero is = absurd (let first = is.first in omega (arith, first))
 none_is_gone e (suc k) is = (none_only_gone e.pages (seat e (suc k)) (seat e (suc k)).sitting.point, gone_has_none e.pages (seat e (suc k)) (seat e (suc k)).sitting.point)
+
+pub stays_has : (v : Shown) (x : Seated) (p : Point) → is_gone p ≡ false → is_some (kind_at v x p) ≡ true
+stays_has v x p stays = go (kind_at v x p) refl
+  where
+    go : (k : Option Kind) → kind_at v x p ≡ k → is_some k ≡ true
+    go None e = absurd (let gone = none_only_gone v x p e in cc)
+    go (Some b) e = refl
+
+-- where each session that hasn't left needs a latch next, no latch is held
+pub none_held : (e : State) → Safe e → ((k : ℕ) → IsSession e k → (kind_of e k ≡ None) ⊎ (kind_of e k ≡ Some step.Latch)) → (k : ℕ) → IsSession e k → latch_of e.latches (sess k) ≡ None
+none_held e safe waits k is = (safe.sessions k is).seated.latched ∙ ap latch_at (holds_none (waits k is))
+  where
+    gone_free : (p : Point) (found : Bool) (hold : Grip) → is_gone p ≡ true → FitsGrip p found hold → hold ≡ Free
+    gone_free Gone found hold gone fits = fits
+    gone_free p found hold gone fits = absurd (cc)
+
+    holds_none : (kind_of e k ≡ None) ⊎ (kind_of e k ≡ Some step.Latch) → (seat e k).hold ≡ Free
+    holds_none (inl none) = gone_free (seat e k).sitting.point (seat e k).sitting.found (seat e k).hold ((none_is_gone e k is).0 none) (safe.sessions k is).seated.posed.grip
+    holds_none (inr latch) = latch_holds_none e k safe is latch

@@ -4,7 +4,9 @@ use Rattle.std.specs.List.{list_any, list_all, range_with_len}
 use Rattle.plain_model.specs.declared.event.Event.{Event}
 use Rattle.plain_model.specs.declared.event.Event.TheVariants.{Said, Left}
 use Rattle.plain_model.specs.declared.kind.Kind.{Kind}
+use Rattle.plain_model.specs.declared.kind.Kind.TheVariants.{Latch}
 use Rattle.step_trail.specs.Rose.{Risen}
+use Rattle.step_trail.specs.Kinds.{is_kind}
 
 -- a step that was tried: whose, of which kind, whether it went or found its page latched, which events it entered in the
 -- history, and which objects it names
@@ -66,6 +68,25 @@ kind_after k last (End who next) = last
 
 abbrev pub last_kind : ℕ → List Entry → Option Kind
 last_kind k entries = fold (kind_after k) None entries
+
+-- whether a session is between statements, amid one, or takes its transaction back at its end
+pub data Phase : Type 0 where
+  Between : Phase
+  Amid : Phase
+  Ending : Phase
+
+-- an answer ends a statement; behind it any step but a latch begins the next one
+abbrev pub next_phase : Phase → Did → Phase
+next_phase Between d = if says d then Between else if is_kind Latch d.kind then Ending else Amid
+next_phase Amid d = if says d then Between else Amid
+next_phase Ending d = if says d then Between else Ending
+
+abbrev pub phase_after : ℕ → Phase → Entry → Phase
+phase_after k phase (Step d) = if d.went && d.who == k then next_phase phase d else phase
+phase_after k phase (End who next) = phase
+
+abbrev pub phase_of : ℕ → List Entry → Phase
+phase_of k entries = fold (phase_after k) Between entries
 
 -- the steps of a session's present statement: those behind the one that answered the statement before
 abbrev pub present_after : ℕ → List Did → Entry → List Did

@@ -9,7 +9,7 @@ use Rattle.plain_model.specs.declared.kind.Kind.{Kind}
 use Rattle.plain_model.specs.declared.kind.Kind.TheVariants.{Start, Lock, Latch, Fetch, Seek, Read, Commit, Say, Leave}
 use Rattle.plain_model.specs.declared.reply.Reply.{Reply}
 use Rattle.plain_model.specs.declared.reply.Reply.TheVariants.{Count, Msg}
-use Rattle.plain_model.specs.declared.reply.TheConstants.Message.{LOG_FAILED}
+use Rattle.plain_model.specs.declared.reply.TheConstants.Message.{LOCKED, LOG_FAILED}
 use Rattle.plain_model.specs.Messages.{at_place}
 use Rattle.step_trail.specs.Rose.{Risen}
 use Rattle.step_trail.specs.Entries.{Entry, Step, Sizes}
@@ -42,6 +42,10 @@ reading =
 -- a page is brought in without its latch
 abbrev pub unlatched : List Entry
 unlatched = went Start [] ∷ went Lock (Locked one All S ∷ []) ∷ went Fetch [] ∷ []
+
+-- a lock is refused, and the statement goes on
+abbrev pub unended : List Entry
+unended = went Start [] ∷ went Lock (said (Msg (at_place LOCKED 2)) ∷ []) ∷ went Latch [] ∷ went Fetch [] ∷ went Read [] ∷ []
 
 -- the log is told to have failed, and no step names it
 abbrev pub unfailed : List Entry

@@ -9,3 +9,5 @@ pub mod Togo
 pub mod Left
 pub mod Next
 pub mod Example
+pub mod Reached
+pub mod Traced

@@ -4,15 +4,15 @@ use Rattle.std.specs.List.{AllByRecursion, list_any}
 use Rattle.plain_model.specs.declared.event.Event.{Event}
 use Rattle.plain_model.specs.declared.event.Event.TheVariants.{Locked, CutAt, RestoreAt, Turned, Said, Left}
 use Rattle.plain_model.specs.declared.kind.Kind.{Kind}
-use Rattle.plain_model.specs.declared.kind.Kind.TheVariants.{Start, Lock, Latch, Fetch, Pass, Copy, Heal, Cut, Gather, Leave, Flush}
+use Rattle.plain_model.specs.declared.kind.Kind.TheVariants.{Start, Lock, Latch, Fetch, Pass, Copy, Mark, Back, Heal, Cut, Gather, Leave, Flush}
 use Rattle.plain_model.specs.declared.reply.Reply.{Reply}
 use Rattle.plain_model.specs.declared.reply.Reply.TheVariants.{Msg}
 use Rattle.plain_model.specs.declared.reply.TheConstants.Message.{LOG_FAILED, DATA_FAILED, FILE_NOT_REMOVED, FILE_FAILED, NO_ROOM, NO_FRAME}
 use Rattle.plain_model.specs.Complete.{closer}
 use Rattle.plain_steps.specs.Events.{who_of}
 use Rattle.step_trail.specs.Rose.{names_snap}
-use Rattle.step_trail.specs.Kinds.{is_kind, follows_last, may_say}
-use Rattle.step_trail.specs.Entries.{Did, Entry, Step, End, Sizes, book_of, last_kind, present, is_over, EachBehind}
+use Rattle.step_trail.specs.Kinds.{at_next, is_kind, follows_last, may_say}
+use Rattle.step_trail.specs.Entries.{Did, Entry, Step, End, Sizes, book_of, last_kind, Phase, Between, Amid, Ending, phase_of, present, is_over, EachBehind}
 
 -- whether a step of this kind may enter the event
 abbrev pub enters : Kind → Event → Bool
@@ -68,9 +68,15 @@ abbrev pub IsCaused : Sizes → List Did → Event → Type 0
 IsCaused z dids (Said who number began reply) = IsCausedBy z dids reply
 IsCaused z dids event = Unit {0}
 
+-- whether a kind fits a session's phase: a statement begins, and a session ends, between statements
+abbrev pub fits_phase : Phase → Kind → Bool
+fits_phase Between kind = list_any (is_kind kind) at_next
+fits_phase Amid kind = not (is_kind Start kind) && not (is_kind Leave kind)
+fits_phase Ending kind = list_any (is_kind kind) (Latch ∷ Copy ∷ Mark ∷ Back ∷ Leave ∷ [])
+
 -- whether a step of this kind may come next: for the flusher, 0, its own; for a session one that may stand behind its last one
 abbrev pub may_come : List Entry → ℕ → Kind → Bool
-may_come before who kind = if who == 0 then is_kind Flush kind else follows_last (last_kind who before) kind
+may_come before who kind = if who == 0 then is_kind Flush kind else follows_last (last_kind who before) kind && fits_phase (phase_of who before) kind
 
 -- a step that may stand behind these entries
 pub record IsStep (z : Sizes) (before : List Entry) (d : Did) : Type 0 where

@@ -1,9 +1,10 @@
 //! What holds of trails and of what is left to do, as functions whose contracts say it.
 
-ghost use Rattle.std.specs.Prelude.{◌≡◌, ◌≢◌, ◌⊎◌, ◌↔◌, ℕ, ◌+◌, ◌≤◌, Bool, true, false, ◌||◌, List, [], ◌∷◌, ◌++◌, map, Option, Some, None};
+ghost use Rattle.std.specs.Prelude.{◌≡◌, ◌≢◌, ◌⊎◌, ◌↔◌, ℕ, ◌+◌, ◌*◌, ◌<◌, ◌≤◌, Bool, true, false, ◌||◌, List, [], ◌∷◌, ◌++◌, length, map, Option, Some, None};
 ghost use Rattle.std.specs.List.{Any, list_any};
 ghost use Rattle.page_base.specs.declared.numbers.PageId.{PageId};
 ghost use Rattle.page_base.specs.declared.numbers.SessNo.{SessNo};
+ghost use Rattle.latch_book.specs.Latches.{latch_of};
 ghost use Rattle.page_dev.specs.Faults.{Rose};
 ghost use Rattle.page_tables.specs.Owners.{is_there};
 ghost use Rattle.plain_model.specs.declared.event.Event.{Event};
@@ -13,20 +14,24 @@ ghost use Rattle.plain_model.specs.declared.kind.Kind.TheVariants as kind;
 ghost use Rattle.plain_model.specs.declared.pick.Pick.{Pick};
 ghost use Rattle.plain_model.specs.declared.reply.Message.{Message};
 ghost use Rattle.plain_model.specs.declared.reply.Reply.TheVariants as reply;
-ghost use Rattle.step_words.specs.Seats.{Free};
+ghost use Rattle.snap_pages.specs.Shown.{Shown};
+ghost use Rattle.step_words.specs.Seats.{Seated, Free, with_seat};
 ghost use Rattle.step_state.specs.Own.{is_gone};
 ghost use Rattle.step_state.specs.Safe.{Safe};
-ghost use Rattle.step_state.specs.State.{State, IsSession, seat};
+ghost use Rattle.step_state.specs.State.{State, IsSession, seat, sess};
 ghost use Rattle.step_trail.specs.Counting.{count_pages};
-ghost use Rattle.step_trail.specs.Entries.{Did, Entry, Step, End, Sizes, book_of, events_in, has_left, is_leaving, kind_after, last_kind, present, present_after, staying};
-ghost use Rattle.step_trail.specs.Example.{small, reading, unlatched, unfailed};
+ghost use Rattle.step_trail.specs.Entries.{Did, Entry, Step, End, Sizes, Amid, book_of, events_in, has_left, is_leaving, kind_after, last_kind, phase_after, phase_of, present, present_after, says, staying, Phase};
+ghost use Rattle.step_trail.specs.Example.{small, reading, unlatched, unended, unfailed};
 ghost use Rattle.step_trail.specs.Finished.{AreTried, IsRound, AreRounds, entries_in, Finished};
 ghost use Rattle.step_trail.specs.Kinds.{is_kind, follows, follows_last};
-ghost use Rattle.step_trail.specs.Left.{Left, IsBelow, Lowers};
-ghost use Rattle.step_trail.specs.Next.{kind_of};
+ghost use Rattle.step_trail.specs.Left.{Left, IsBelow, Lowers, left_said, left_planned};
+ghost use Rattle.step_trail.specs.Next.{kind_at, kind_of};
+ghost use Rattle.step_trail.specs.Reached.{IsReached};
 ghost use Rattle.step_trail.specs.Rose.{Counts, IsRisen, has_risen, names_snap, risen};
 ghost use Rattle.step_trail.specs.Scheduled.{IsAmid, IsBetween, IsLast, IsOver, Scheduled, Takes, entries_of};
-ghost use Rattle.step_trail.specs.Walked.{IsEnd, IsEntry, IsExplained, IsStep, Walked};
+ghost use Rattle.step_trail.specs.Togo.{sound, togo, unmapped};
+ghost use Rattle.step_trail.specs.Traced.{AreFresh, Flushes, Traced, Traces};
+ghost use Rattle.step_trail.specs.Walked.{IsEnd, IsEntry, IsExplained, IsStep, Walked, fits_phase};
 
 /// What a step names by its counts are the objects whose count rose in it.
 pub fn what_rose_is_named()
@@ -58,12 +63,18 @@ pub fn a_trail_goes_on()
     ensures front { (z : Sizes) (es fs : List Entry) (book : List Event) → Walked z (es ++ fs) book → Walked z es (book_of es) }
 {}
 
-/// What a trail tells of a session is told anew by one more entry: its last kind, the steps of its present statement, and whether
-/// it has left.
+/// What a trail tells of a session is told anew by one more entry: its last kind, its phase, the steps of its present statement,
+/// and whether it has left.
 pub fn what_a_session_did_moves_by_one()
     ensures kind { (k : ℕ) (es : List Entry) (e : Entry) → last_kind k (es ++ e ∷ []) ≡ kind_after k (last_kind k es) e }
+    ensures phase { (k : ℕ) (es : List Entry) (e : Entry) → phase_of k (es ++ e ∷ []) ≡ phase_after k (phase_of k es) e }
     ensures present { (k : ℕ) (es : List Entry) (e : Entry) → present k (es ++ e ∷ []) ≡ present_after k (present k es) e }
     ensures left { (k : ℕ) (es : List Entry) (e : Entry) → has_left k (es ++ e ∷ []) ≡ (has_left k es || list_any (is_leaving k) (events_in e)) }
+{}
+
+/// In a trail a session answers a statement that has begun: in its first step, or amid it.
+pub fn an_answer_ends_what_has_begun()
+    ensures { (z : Sizes) (es : List Entry) (d : Did) (fs : List Entry) (book : List Event) → Walked z (es ++ Step d ∷ fs) book → d.who ≢ 0 → says d ≡ true → (d.kind ≡ kind.Start) ⊎ (phase_of d.who es ≡ Amid) }
 {}
 
 /// In a trail a refusal has its cause among the steps of its statement, up to the one that says it.
@@ -100,22 +111,50 @@ pub fn what_is_left_falls()
     ensures ends { (f : ℕ → Left) → ((n : ℕ) → IsBelow (f (n + 1)) (f n)) → ⊥ }
 {}
 
+/// A step that changes one session's seat leaves less to do where the session then has fewer statements to answer, or as many and
+/// fewer to plan, or as many of both and all in all fewer steps, of which no other session has more.
+pub fn a_step_leaves_less_to_do()
+    ensures saying { (e s : State) (k : ℕ) (x : Seated) → IsSession e k → s.seats ≡ with_seat e.seats k x → left_said x.sitting < left_said (seat e k).sitting → Lowers e s }
+    ensures planning { (e s : State) (k : ℕ) (x : Seated) → IsSession e k → s.seats ≡ with_seat e.seats k x → left_said x.sitting ≡ left_said (seat e k).sitting → left_planned x.sitting < left_planned (seat e k).sitting → Lowers e s }
+    ensures stepping { (e s : State) (k : ℕ) (x : Seated) → IsSession e k → s.seats ≡ with_seat e.seats k x → left_said x.sitting ≡ left_said (seat e k).sitting → left_planned x.sitting ≡ left_planned (seat e k).sitting → ((j : ℕ) → IsSession e j → j ≢ k → togo s.pages (seat e j) ≤ togo e.pages (seat e j)) → 2 * unmapped s.pages + (sound s.pages + togo s.pages x) < 2 * unmapped e.pages + (sound e.pages + togo e.pages (seat e k)) → Lowers e s }
+{}
+
 /// Where one page less passes a test, one less is counted; and where no other passes, no more are.
 pub fn counts_of_pages_fall()
     ensures one { (t u : PageId → Bool) (p : PageId) → t p ≡ true → u p ≡ false → ((q : PageId) → q ≢ p → u q ≡ t q) → (files : List ℕ) → is_there files p ≡ true → count_pages files t ≡ count_pages files u + 1 }
     ensures fewer { (t u : PageId → Bool) → ((q : PageId) → u q ≡ true → t q ≡ true) → (files : List ℕ) → count_pages files u ≤ count_pages files t }
 {}
 
-/// A session has no next step exactly where it has left; and who needs a latch next holds none.
+/// A session has no next step exactly where it has left.
 pub fn who_is_gone_has_no_step()
-    ensures gone { (e : State) (k : ℕ) → IsSession e k → kind_of e k ≡ None ↔ is_gone (seat e k).sitting.point ≡ true }
-    ensures latch { (e : State) (k : ℕ) → Safe e → IsSession e k → kind_of e k ≡ Some kind.Latch → (seat e k).hold ≡ Free }
+    ensures { (e : State) (k : ℕ) → IsSession e k → kind_of e k ≡ None ↔ is_gone (seat e k).sitting.point ≡ true }
 {}
 
-/// The steps of a SELECT are a trail; a page that is brought in without its latch is in none, and neither is a failure of the log
-/// that no step names.
+/// Who needs a latch next holds none; so where each session that hasn't left needs one, none is held, and none is in the way.
+pub fn who_needs_a_latch_holds_none()
+    ensures its { (e : State) (k : ℕ) → Safe e → IsSession e k → kind_of e k ≡ Some kind.Latch → (seat e k).hold ≡ Free }
+    ensures all { (e : State) → Safe e → ((k : ℕ) → IsSession e k → (kind_of e k ≡ None) ⊎ (kind_of e k ≡ Some kind.Latch)) → (k : ℕ) → IsSession e k → latch_of e.latches (sess k) ≡ None }
+{}
+
+/// A session that has reached its point takes a step there that may stand behind its last one, whatever the pages are.
+pub fn the_next_step_may_come()
+    ensures { (v : Shown) (last : Option Kind) (phase : Phase) (x : Seated) (b : Kind) → IsReached v last phase x → kind_at v x x.sitting.point ≡ Some b → (follows_last last b ≡ true) × (fits_phase phase b ≡ true) }
+{}
+
+/// The trail of an engine keeps up with it: before the first step it has no entry, it takes in a step, one of the flusher, and the
+/// end of a pick.
+pub fn a_trail_keeps_up_with_its_engine()
+    ensures none { (z : Sizes) (e : State) → z.sessions ≡ length e.seats → AreFresh e → Traced z e [] }
+    ensures step { (z : Sizes) (e s : State) (k : ℕ) (d : Did) (entries : List Entry) → Traced z e entries → Traces z e s k d → Traced z s (entries ++ Step d ∷ []) }
+    ensures flush { (z : Sizes) (e s : State) (d : Did) (entries : List Entry) → Traced z e entries → Flushes e s d → Traced z s (entries ++ Step d ∷ []) }
+    ensures end { (z : Sizes) (e : State) (entries : List Entry) (who : ℕ) → Traced z e entries → who ≤ length e.seats → Traced z e (entries ++ End who (kind_of e who) ∷ []) }
+{}
+
+/// The steps of a SELECT are a trail; a page that is brought in without its latch is in none, and neither is a statement that goes
+/// on behind its answer, or a failure of the log that no step names.
 pub fn an_example_is_a_trail()
     ensures reading { Walked small reading (book_of reading) }
     ensures unlatched { (book : List Event) → Walked small unlatched book → ⊥ }
+    ensures unended { (book : List Event) → Walked small unended book → ⊥ }
     ensures unfailed { (book : List Event) → Walked small unfailed book → ⊥ }
 {}
