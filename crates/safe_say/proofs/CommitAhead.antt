@@ -26,7 +26,7 @@ use Rattle.open_commits.proofs.WithinLemmas.{differ, unnamed}
 use Rattle.open_commits.proofs.StandLemmas.{written_now}
 use Rattle.open_commits.proofs.AheadLemmas.{lacking, record_of, write_own, write_others, write_lacks, write_tells}
 use Rattle.step_words.specs.Coming.{claims_of}
-use Rattle.step_state.specs.Plans.{AreOnOwn, IsGiven}
+use Rattle.stmt_course.specs.Bringing.{AreOnOwn, IsGiven}
 
 -- CLAIMS
 

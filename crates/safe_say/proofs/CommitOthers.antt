@@ -60,7 +60,8 @@ use Rattle.step_words.specs.Sittings.{stmt_at, undoes_all}
 use Rattle.step_state.specs.State.{State, IsSession, seat, works, many, machine, slots_at, alone_of, before_of}
 use Rattle.step_state.specs.Holding.{is_x, holds_all, writes, lock_at, lock_named}
 use Rattle.step_state.specs.Own.{IsSafeSession}
-use Rattle.step_state.specs.Plans.{AreOnOwn, IsPlanned}
+use Rattle.stmt_course.specs.Bringing.{AreOnOwn}
+use Rattle.step_state.specs.Plans.{IsPlanned}
 use Rattle.step_state.specs.Told.{AreSeen, SeesSource, GoBack, SpreadBack, AreSized, IsHeld, IsSuccess, IsToldSource}
 use Rattle.step_state.specs.Safe.{Safe, IsContent}
 use Rattle.step_state.proofs.AlongLemmas.{AreAlike, go_along as go_back_along}
@@ -318,13 +319,13 @@ module _ (e s : State) (k : ℕ) (safe : Safe e) (d : DoesCommit e s k) (ds : Li
       leads : IsBase files (sheets (done (coming c claimed) x)) ds (apply (change_and_reply c.stmt then).0 then)
       leads = plans_joined (coming c claimed) files ds x mine theirs (works e j) (works e k) (committed (machine s)) (apply (change_and_reply c.stmt (see (machine e) j)).0 (see (machine e) j)) (apply (change_and_reply c.stmt then).0 then) apart_jk lie_j lie_k mine_now base_k
           (subst (λ (t : Slots). IsBase files (sheets (done (coming c claimed) t)) ds (apply (change_and_reply c.stmt (see (machine e) j)).0 (see (machine e) j))) alone_is
-          (subst (λ es. IsBase files (sheets (done (coming c claimed) (alone_of e j))) es (apply (change_and_reply c.stmt (see (machine e) j)).0 (see (machine e) j))) (old.same (nobody j is)) (old.brings.base claimed ok_before))) joins_after
+          (subst (λ es. IsBase files (sheets (done (coming c claimed) (alone_of e j))) es (apply (change_and_reply c.stmt (see (machine e) j)).0 (see (machine e) j))) (old.same (nobody j is) claimed) (old.brings.base claimed ok_before))) joins_after
 
     plan_now : IsPlanned files ds (lock_at e j) x then c
     plan_now = record {
       shaped = shape_reads c.stmt then (see (machine e) j) (ap (λ o. option_map (λ (t : PlainTable). t.cols) o) its_table) ∙ old.shaped;
       reply = old.reply ∙ ap (λ r. Some r.1) (sym outcome);
-      after = ds;
+      after = λ claimed. ds;
       brings = record {
         go = go_now;
         given = old.brings.given;
@@ -332,7 +333,7 @@ module _ (e s : State) (k : ℕ) (safe : Safe e) (d : DoesCommit e s k) (ds : Li
         spread = λ t. absurd (let wrong : true ≡ false = sym t ∙ nobody j is in cc);
         base = leads;
       };
-      same = λ f. refl;
+      same = λ f claimed. refl;
     }
 
   -- A REPLY THAT WAITS

@@ -201,9 +201,9 @@ module _ (e s : State) (k : ℕ) (safe : Safe e) (d : DoesCommit e s k) (ds : Li
     pub its_locks : HasLocks (lock_at e k) c
     its_locks = me.seated.holding c has source
 
-    written : IsBase (counts e.pages) (sheets (alone_of e k)) plan.after (apply (change_and_reply d.stmt (see (machine e) k)).0 (see (machine e) k))
-    written = subst (λ t. IsBase (counts e.pages) (sheets (alone_of e k)) plan.after (apply (change_and_reply t (see (machine e) k)).0 (see (machine e) k))) its_stmt
-        (subst (λ ws. IsBase (counts e.pages) (sheets (done ws (alone_of e k))) plan.after (apply (change_and_reply c.stmt (see (machine e) k)).0 (see (machine e) k))) nothing_comes (plan.brings.base (taken_at c) claimable))
+    written : IsBase (counts e.pages) (sheets (alone_of e k)) (plan.after (taken_at c)) (apply (change_and_reply d.stmt (see (machine e) k)).0 (see (machine e) k))
+    written = subst (λ t. IsBase (counts e.pages) (sheets (alone_of e k)) (plan.after (taken_at c)) (apply (change_and_reply t (see (machine e) k)).0 (see (machine e) k))) its_stmt
+        (subst (λ ws. IsBase (counts e.pages) (sheets (done ws (alone_of e k))) (plan.after (taken_at c)) (apply (change_and_reply c.stmt (see (machine e) k)).0 (see (machine e) k))) nothing_comes (plan.brings.base (taken_at c) claimable))
 
   -- WHAT BECOMES THE SOURCE
 
@@ -228,9 +228,9 @@ module _ (e s : State) (k : ℕ) (safe : Safe e) (d : DoesCommit e s k) (ds : Li
   by_write is none c has stage =
       let now : committed (machine s) ≡ apply (change_and_reply d.stmt (see (machine e) k)).0 (see (machine e) k) = ap committed (history e s k safe d) ∙ writes_source (machine e) k d.comes.0 me.in_step.idle d.stmt d.has d.kind d.number (seat e k).began d.reply d.success is none in
       record {
-        after = (plan c has stage).after;
-        base = subst (λ (t : Tables). IsBase (counts e.pages) (sheets (alone_of e k)) (plan c has stage).after t) (sym now) (written c has stage);
-        same = (plan c has stage).same;
+        after = (plan c has stage).after (taken_at c);
+        base = subst (λ (t : Tables). IsBase (counts e.pages) (sheets (alone_of e k)) ((plan c has stage).after (taken_at c)) t) (sym now) (written c has stage);
+        same = λ f. (plan c has stage).same f (taken_at c);
         kept = λ f t one out.
             let h = holds_table (lock_at e k) c (its_locks c has stage) (on c has stage).tables (ap is_past_table stage) (ap is_past_all stage) f in
             let its = (told.seen c has (source c has stage)).table h.desc h.has in

@@ -110,7 +110,7 @@ module _ (e s : State) (k : ℕ) (safe : Safe e) (d : DoesCommit e s k) where
     latches = λ j ne. ap (λ ls. latch_of ls (sess j)) d.latches;
     locks = held_else;
     files = d.places.counts;
-    snaps = leaves_same e s k safe.sessions d.snaps d.places d.views (λ j p is ne hold. λ i. d.shown.images i p);
+    snaps = leaves_same e s k safe.sessions d.snaps d.places d.views (λ j c p is ne copied hold. λ i. d.shown.images i p);
     sessions = λ j is ne. ap (λ (m : Plain). session m j) history ∙ others_are (machine e) (Said (sess k) d.number (seat e k).began d.reply) d.comes j is.first ne;
     scripts = its.scripts;
     later = (let more = its.moment in omega (arith, more));
@@ -162,6 +162,7 @@ module _ (e s : State) (k : ℕ) (safe : Safe e) (d : DoesCommit e s k) where
     marks = λ c p copied hold sound. absurd (not_held p hold);
     copies = λ c p copied hold kept. absurd (not_held p hold);
     copied = λ c copied. let lt = me.beside.copied c copied in omega (arith, lt, cut_same);
+    paid = λ c made at none sound. cc;
     made = λ c making. absurd (let wrong : None ≡ Some c = sym none_made ∙ making in cc);
     named = λ c within. let old = me.beside.named c within in (omega (arith, old.0, cut_same), name_same e s k safe.sessions d.snaps d.places d.views c ∙ old.1);
   }
@@ -175,6 +176,7 @@ module _ (e s : State) (k : ℕ) (safe : Safe e) (d : DoesCommit e s k) where
     idle = λ z. ap (λ (x : Session). x.work) its.here;
     making = ap (λ (x : Session). x.making) its.here ∙ sym (ap (making_in s.pages) none_made);
     gone = ap (λ (x : Session). x.gone) its.here ∙ me.in_step.gone ∙ ap is_gone d.at;
+    rested = λ t. (ap (λ (x : Session). x.first) its.here, (let a = ap (λ (x : Session). x.since) its.here in let b = its.moment in omega (arith, a, b)));
     begun = λ f. cc;
   }
 

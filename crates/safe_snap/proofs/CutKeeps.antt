@@ -1,16 +1,22 @@
 -- A cut leaves to others what it owes them, and shows the rest.
-use Rattle.std.proofs.Common.{length, ◌≡◌, ◌≢◌, ℕ, ◌+◌, ◌-◌, ◌<◌, ◌≤◌, Bool, true, false, List, [], refl, ap, sym, subst, ◌∙◌, inl, inr, arith}
-use Rattle.std.specs.Prelude.{Option, Some, None, slice_index_or, unwrap_or, option_map, is_some}
+use Rattle.std.proofs.Common.{length, ◌≡◌, ◌≢◌, ℕ, ◌+◌, ◌-◌, ◌<◌, ◌≤◌, Bool, true, false, List, [], ◌∷◌, refl, ap, sym, subst, ◌∙◌, inl, inr, arith}
+use Rattle.std.specs.Prelude.{Option, Some, None, slice_index_or, unwrap_or, option_map, is_some, slice_get}
 use Rattle.page_base.specs.declared.numbers.PageId.{PageId}
 use Rattle.page_base.specs.declared.numbers.SnapNo.{SnapNo}
 use Rattle.latch_book.specs.Latches.{latch_of}
-use Rattle.plain_model.specs.State.{Plain, Session, session}
+use Rattle.plain_model.specs.State.{Plain, Session, session, stmt_of}
 use Rattle.sparse_set.specs.Sparse.{Sparse}
 use Rattle.snap_cat.specs.Catalog.{Snap, snap_at}
-use Rattle.snap_pages.specs.Cuts.{place_of, snap_by, is_open_by}
+use Rattle.std.specs.Option.{option_map_or}
+use Rattle.rec_log.specs.Records.{Record}
+use Rattle.snap_pages.specs.Cuts.{place_of, snap_by, is_open_by, owed_by}
 use Rattle.snap_pages.specs.Shown.{catalog, count, counts, set_of}
+use Rattle.plain_model.specs.Coming.{Silent, Cuts}
+use Rattle.plain_model.specs.Next.{next_of}
+use Rattle.plain_model.specs.declared.stmt.Stmt.{Stmt}
+use Rattle.step_words.specs.Sittings.{stmt_at}
 use Rattle.step_words.specs.declared.point.Point.{Point}
-use Rattle.step_words.specs.declared.point.Point.TheVariants.{Start, Cut, Change, Claim, Undo, Commit}
+use Rattle.step_words.specs.declared.point.Point.TheVariants.{Say, Start, Cut, Change, Claim, Undo, Commit}
 use Rattle.step_words.specs.declared.stage.DbKind.TheVariants.{Source}
 use Rattle.step_words.specs.Courses.{Course}
 use Rattle.step_words.specs.Seats.{Seated, Free, latch_at}
@@ -46,7 +52,7 @@ module _ (e s : State) (k : ℕ) (safe : Safe e) (d : DoesCut e s k) where
 
   posed_now : IsPosed (counts e.pages) y
   posed_now = record {
-    grip = by_owed (λ t. FitsGrip t (seat e k).sitting.found (seat e k).hold) d.owed.recs free_hold tt;
+    grip = by_owed (λ t. FitsGrip t (seat e k).sitting.found (seat e k).hold) d.owed.recs (inl free_hold) tt;
     course = λ c at. absurd (no_course c at);
     changes = λ p at. absurd (by_owed (λ t. t ≡ Change p → ⊥) d.owed.recs (λ q. cc) (λ q. cc) at);
     commits = λ at. absurd (by_owed (λ t. t ≡ Commit → ⊥) d.owed.recs (λ q. cc) (λ q. cc) at);
@@ -85,6 +91,13 @@ module _ (e s : State) (k : ℕ) (safe : Safe e) (d : DoesCut e s k) where
   new_name : name_by s.pages (catalog e.pages).next_cut ≡ Some d.snap
   new_name = ap (λ o. option_map (λ (f : Snap × Sparse). f.0.name) o) new_by ∙ ap (λ (x : Snap). Some x.name) (new_snap e s k safe d (record { 0 = count e.pages }) refl)
 
+  new_owed : owed_by s.pages (catalog e.pages).next_cut ≡ d.owed.recs
+  new_owed = ap (λ o. option_map_or (λ (f : Snap × Sparse). f.0.owed.recs) o []) new_by ∙ ap (λ (x : Snap). x.owed.recs) (new_snap e s k safe d (record { 0 = count e.pages }) refl)
+
+  says_empty : (rs : List Record) → point_after rs ≡ Say → rs ≡ []
+  says_empty [] at = refl
+  says_empty (r ∷ rs) at = cc
+
   not_held : (p : PageId) → HoldsEx (seat e k) p → ⊥
   not_held p hold = (let none : latch_at (seat e k).hold ≡ None = ap latch_at free_hold in let wrong = sym none ∙ hold in cc)
 
@@ -94,11 +107,21 @@ module _ (e s : State) (k : ℕ) (safe : Safe e) (d : DoesCut e s k) where
     marks = λ c p copied hold sound. absurd (not_held p hold);
     copies = λ c p copied hold kept. absurd (not_held p hold);
     copied = λ c copied. let lt = me.beside.copied c copied in omega (arith, lt, next_more e s k safe d);
+    paid = λ c making at none sound.
+        let it : (catalog e.pages).next_cut ≡ c = ap (λ (o : Option ℕ). unwrap_or o 0) making in
+        ap (owed_by s.pages) (sym it) ∙ new_owed ∙ says_empty d.owed.recs at;
     made = λ c making.
         let it : (catalog e.pages).next_cut ≡ c = ap (λ (o : Option ℕ). unwrap_or o 0) making in
         (omega (arith, it, next_more e s k safe d), subst (λ n. is_open_by s.pages n ≡ true) it new_open);
     named = λ c within. let old = me.beside.named c within in (omega (arith, old.0, next_more e s k safe d), name_same e s k safe d c old.0 ∙ old.1);
   }
+
+  -- who has no statement left cuts nothing
+  cuts_something : stmt_at (seat e k).sitting ≡ None → ⊥
+  cuts_something none =
+      let same : stmt_of (machine e) k ≡ stmt_at (seat e k).sitting = ap (λ n. slice_get (slice_index_or (machine e).scripts (k - 1) []) n) me.in_step.said ∙ ap (λ (l : List Stmt). slice_get l (seat e k).sitting.said) (sym me.script) in
+      let silent : next_of (machine e) k (stmt_of (machine e) k) ≡ Silent = ap (next_of (machine e) k) (same ∙ none) in
+      (let wrong : Silent ≡ Cuts d.snap = sym silent ∙ d.comes.1 in cc)
 
   in_step_now : IsInStep s.pages y (session (machine s) k) (machine s).moment
   in_step_now = record {
@@ -109,6 +132,10 @@ module _ (e s : State) (k : ℕ) (safe : Safe e) (d : DoesCut e s k) where
     idle = λ z. ap (λ (x : Session). x.work) (its_session e s k safe d) ∙ me.in_step.idle (sym (ap (λ (x : Session). x.depth) (its_session e s k safe d)) ∙ z);
     making = ap (λ (x : Session). x.making) (its_session e s k safe d) ∙ sym new_name;
     gone = ap (λ (x : Session). x.gone) (its_session e s k safe d) ∙ me.in_step.gone ∙ ap is_gone d.at ∙ sym (by_owed (λ t. is_gone t ≡ false) d.owed.recs refl refl);
+    rested = λ t. absurd (elim t [
+      | inl b ↦ by_owed (λ t. is_between t ≡ true → ⊥) d.owed.recs (λ q. cc) (λ q. cc) b
+      | inr none ↦ cuts_something none
+    ]);
     begun = λ f.
         let old = me.in_step.begun (ap is_between d.at) in (
           subst (λ n. n ≤ (seat e k).began) (sym (ap (λ (x : Session). x.since) (its_session e s k safe d))) old.0,

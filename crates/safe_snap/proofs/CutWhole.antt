@@ -19,7 +19,7 @@ use Rattle.sparse_set.specs.Sparse.{Sparse, is_copied, sparse_page}
 use Rattle.snap_cat.specs.declared.snapshot.SnapState.{SnapState}
 use Rattle.snap_cat.specs.declared.snapshot.SnapState.TheVariants.{Making, Online, Suspect}
 use Rattle.snap_cat.specs.Catalog.{Snap, Catalog, snap_at}
-use Rattle.snap_pages.specs.Cuts.{place_of, snap_by, is_open_by, marked_by, sparse_by, is_sound_by}
+use Rattle.snap_pages.specs.Cuts.{place_of, snap_by, is_open_by, marked_by, sparse_by, is_sound_by, owed_by}
 use Rattle.snap_pages.specs.Dues.{is_sound}
 use Rattle.snap_pages.specs.Owed.{count_on}
 use Rattle.snap_pages.specs.Shown.{Shown, catalog, count, counts, img, pins, state_of, IsOpen}
@@ -29,7 +29,7 @@ use Rattle.step_words.specs.Seats.{Seated, Free, seat_in, with_seat}
 use Rattle.step_state.specs.State.{State, Fixed, IsSession, sess, seat, works, machine}
 use Rattle.step_state.specs.Holding.{lock_at}
 use Rattle.step_state.specs.Snapshots.{HoldsEx, IsKeptBy, name_by, page_read}
-use Rattle.step_state.specs.Posed.{FitsGrip}
+use Rattle.step_state.specs.Posed.{FitsGrip, is_making}
 use Rattle.step_state.specs.Own.{IsSafeSession, IsAside}
 use Rattle.step_state.specs.Whole.{IsWholeSafe, seat_pins, seats_pins, snaps_pins, snap_told}
 use Rattle.step_state.specs.Safe.{Safe}
@@ -88,6 +88,10 @@ module _ (e s : State) (k : ℕ) (safe : Safe e) (d : DoesCut e s k) where
   calm_still : (machine s).restoring ≡ None
   calm_still = ap (λ (m : Plain). m.restoring) history ∙ d.calm
 
+  -- it made none before
+  unmade_yet : {c : ℕ} → (seat e k).making ≡ Some c → ⊥
+  unmade_yet {c} makes = (let wrong : None ≡ Some c = sym ((safe.sessions k d.is).seated.posed.makes (ap is_making d.at)) ∙ makes in cc)
+
   free_still : (i j c : ℕ) → IsSession s i → IsSession s j → (seat s i).sitting.within ≡ Some c → (seat s j).making ≡ Some c → ⊥
   free_still i j c there here in_it makes =
       let inside : (seat e i).sitting.within ≡ Some c = elim (cases_eq i k) [
@@ -114,6 +118,15 @@ module _ (e s : State) (k : ℕ) (safe : Safe e) (d : DoesCut e s k) where
     paid = λ n there online. elim (old_or_new e s k safe d n there) [
       | inl old ↦ ap (λ (x : Snap). x.owed.recs) (old_snap e s k safe d n old) ∙ safe.whole.paid n old (sym (ap (λ (x : Snap). x.state) (old_snap e s k safe d n old)) ∙ online)
       | inr here ↦ absurd (let wrong : Making ≡ Online = sym (ap (λ (x : Snap). x.state) (new_snap e s k safe d n here)) ∙ online in cc)
+    ];
+    makers = λ n there makes. elim (old_or_new e s k safe d n there) [
+      | inl old ↦
+          let was = safe.whole.makers n old (sym (ap (λ (x : Snap). x.state) (old_snap e s k safe d n old)) ∙ makes) in
+          (was.0, record { first = was.1.first; last = omega (arith, was.1.last, as_many) }, elim (cases_eq was.0 k) [
+            | inl same ↦ absurd (unmade_yet (sym (ap (λ m. (seat e m).making) same) ∙ was.2))
+            | inr ne ↦ ap (λ (x : Seated). x.making) (else was.0 ne) ∙ was.2 ∙ ap (λ (x : Snap). Some x.cut) (sym (old_snap e s k safe d n old))
+          ])
+      | inr here ↦ (k, record { first = d.is.first; last = omega (arith, d.is.last, as_many) }, ap (λ (x : Seated). x.making) now ∙ ap (λ (x : Snap). Some x.cut) (sym (new_snap e s k safe d n here)))
     ];
     snaps = ap (λ (m : Plain). m.snaps) history
         ∙ ap (λ ss. ss ++ record { name = d.snap; files = new_names (stmt_of (machine e) k); cut = (machine e).next_cut; suspect = false } ∷ []) safe.whole.snaps
@@ -145,6 +158,9 @@ module _ (e s : State) (k : ℕ) (safe : Safe e) (d : DoesCut e s k) where
   sound_same : (c : ℕ) → c < (catalog e.pages).next_cut → is_sound_by s.pages c ≡ is_sound_by e.pages c
   sound_same c lt = ap (λ o. option_map_or (λ (f : Snap × Sparse). is_sound f.0.state) o false) (by_cut e s k safe d c lt)
 
+  owed_same : (c : ℕ) → c < (catalog e.pages).next_cut → owed_by s.pages c ≡ owed_by e.pages c
+  owed_same c lt = ap (λ o. option_map_or (λ (f : Snap × Sparse). f.0.owed.recs) o []) (by_cut e s k safe d c lt)
+
   -- an old snapshot that is kept was kept
   pub kept_back : (n : SnapNo) → IsOpen e.pages n → IsKept s.pages n → IsKept e.pages n × (view s.pages n ≡ view e.pages n)
   kept_back n old kept = elim (d.views n kept) [
@@ -160,6 +176,7 @@ module _ (e s : State) (k : ℕ) (safe : Safe e) (d : DoesCut e s k) where
     rises = omega (arith, next_more e s k safe d);
     named = λ j c is ne within. name_same c (cut_known j c is within);
     made = λ j c is ne making. let old = (safe.sessions j is).beside.made c making in (name_same c old.0, open_same c old.0 ∙ old.1);
+    owed = λ j c is ne making. owed_same c ((safe.sessions j is).beside.made c making).0;
     sound = λ c lt t. sym (sound_same c lt) ∙ t;
     reads = λ j c p is ne within at. marked_same c p (cut_known j c is within);
     marks = λ j c p is ne copied hold sound. marked_same c p ((safe.sessions j is).beside.copied c copied);

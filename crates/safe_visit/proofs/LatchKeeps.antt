@@ -1,5 +1,5 @@
 -- A latch that is taken leaves to others what it owes them, and shows the rest.
-use Rattle.std.proofs.Common.{◌≡◌, ℕ, ◌+◌, ◌-◌, Bool, true, false, List, [], ◌∷◌, ◌++◌, refl, ap, sym, subst, ◌∙◌, inl, inr, arith}
+use Rattle.std.proofs.Common.{◌≡◌, ℕ, ◌+◌, ◌-◌, Bool, true, false, List, [], ◌∷◌, ◌++◌, refl, ap, sym, subst, ◌∙◌, inl, inr, arith, map}
 use Rattle.std.specs.Prelude.{Option, Some, None, option_map, slice_index_or}
 use Rattle.page_base.specs.declared.numbers.Mode.{Mode}
 use Rattle.page_base.specs.declared.numbers.PageId.{PageId}
@@ -13,10 +13,11 @@ use Rattle.plain_model.specs.State.{Plain, session, see}
 use Rattle.plain_steps.specs.Modes.{suffices}
 use Rattle.plain_steps.specs.Phases.{first_mode}
 use Rattle.rec_log.specs.Records.{Record}
-use Rattle.snap_cat.specs.Catalog.{Snap as SnapEntry, snap_at}
+use Rattle.snap_cat.specs.Catalog.{Snap as SnapEntry, snap_at, Catalog}
 use Rattle.sparse_set.specs.Sparse.{Sparse}
 use Rattle.snap_pages.specs.Owed.{count_on}
-use Rattle.snap_pages.specs.Shown.{Shown, catalog, counts, set_of}
+use Rattle.snap_pages.specs.Cuts.{marked_by, sparse_by}
+use Rattle.snap_pages.specs.Shown.{Shown, catalog, counts, pins, set_of}
 use Rattle.snap_pages.proofs.CutLemmas.{place_some, by_place}
 use Rattle.sys_cat.specs.declared.desc.TableDesc.{TableDesc}
 use Rattle.step_words.specs.declared.point.Point.{Point}
@@ -32,12 +33,12 @@ use Rattle.step_state.specs.Holding.{lock_at}
 use Rattle.step_state.specs.Posed.{FitsGrip, lacks_course, lacks_work, is_making, IsIn, IsOnCourse, IsPosed}
 use Rattle.step_state.specs.Own.{IsSeated, IsInStep, IsAside, IsSafeSession, page_at, is_gone, is_between}
 use Rattle.step_state.specs.Snapshots.{IsBeside, name_by, page_read}
-use Rattle.step_state.specs.Whole.{grip_pin, gathered_on}
+use Rattle.step_state.specs.Whole.{grip_pin, gathered_on, seat_pins, snap_told}
 use Rattle.step_state.specs.Told.{IsToldSource, IsToldReading}
 use Rattle.step_state.specs.Safe.{Safe, IsContent}
 use Rattle.step_state.specs.Steps.{Steps}
 use Rattle.safe_visit.specs.Latching.{page_visited, NeedsLatch, VisitsSource, VisitsSnap, Edits, Claims, Undoes, Heals, seat_latched, DoesLatch}
-use Rattle.safe_visit.proofs.SeatMoves.{history, now, held_same, files, seat_moves}
+use Rattle.step_state.proofs.MoveLemmas.{stays_put, seat_moves}
 
 -- whatever is so of the point before and then, each in its case
 by_needs : (P : Point → Point → Type 0) (v : Shown) (x : Seated) (p : PageId) (mode : LatchMode) (next : Point) → NeedsLatch v x p mode next
@@ -164,6 +165,7 @@ module _ (e s : State) (k : ℕ) (safe : Safe e) (d : DoesLatch e s k) where
     marks = λ c p copied hold sound. absurd (none_copied c copied);
     copies = λ c p copied hold kept. absurd (none_copied c copied);
     copied = me.beside.copied;
+    paid = λ c making at none sound. absurd (step (λ old new. new ≡ Say → ⊥) (λ q. cc) (λ q. cc) (λ q. cc) (λ o q. cc) (λ a q. cc) (λ q. cc) at);
     made = me.beside.made;
     named = me.beside.named;
   }
@@ -177,6 +179,7 @@ module _ (e s : State) (k : ℕ) (safe : Safe e) (d : DoesLatch e s k) where
     idle = me.in_step.idle;
     making = me.in_step.making;
     gone = me.in_step.gone ∙ step (λ old new. is_gone old ≡ is_gone new) refl refl refl (λ o. refl) (λ a. refl) refl;
+    rested = λ t. me.in_step.rested (elim t [ | inl b ↦ absurd (step (λ old new. is_between new ≡ true → ⊥) (λ q. cc) (λ q. cc) (λ q. cc) (λ o q. cc) (λ a q. cc) (λ q. cc) b) | inr none ↦ inr none ]);
     begun = λ f. me.in_step.begun (step (λ old new. is_between new ≡ false → is_between old ≡ false) (λ q. refl) (λ q. refl) (λ q. refl) (λ o q. refl) (λ a q. refl) (λ q. refl) f);
   }
 
@@ -220,18 +223,6 @@ module _ (e s : State) (k : ℕ) (safe : Safe e) (d : DoesLatch e s k) where
       by mode next (Undoes all at last) = some_ends last.front last.last (sym last.are ∙ aside.records)
       by mode next (Heals cut at making last) = (let wrong : None ≡ Some cut = sym aside.making ∙ making in cc)
 
-  own_kept : IsSafeSession s k
-  own_kept = record {
-    seated = subst (λ x. IsSeated (counts s.pages) x (latch_of s.latches (sess k)) (lock_at s k)) (sym (now e s k y safe d.moves))
-        (subst (λ f. IsSeated f y (latch_of s.latches (sess k)) (lock_at s k)) (sym (files e s k y safe d.moves))
-        (subst (λ (h : ℕ → Option Mode). IsSeated files_e y (latch_of s.latches (sess k)) h) (sym (held_same e s k y safe d.moves k)) seated_now));
-    beside = subst (λ x. IsBeside s.pages x) (sym (now e s k y safe d.moves)) (subst (λ (v : Shown). IsBeside v y) (sym d.moves.pages) beside_now);
-    script = ap (λ (x : Seated). x.sitting.script) (now e s k y safe d.moves) ∙ me.script ∙ ap (λ (m : Plain). slice_index_or m.scripts (k - 1) []) (sym (history e s k y safe d.moves));
-    in_step = subst (λ (m : Plain). IsInStep s.pages (seat s k) (session m k) m.moment) (sym (history e s k y safe d.moves))
-        (subst (λ x. IsInStep s.pages x (session (machine e) k) (machine e).moment) (sym (now e s k y safe d.moves)) (subst (λ (v : Shown). IsInStep v y (session (machine e) k) (machine e).moment) (sym d.moves.pages) in_step_now));
-    aside = λ who snap restores. absurd (no_restore who snap (sym (ap (λ (m : Plain). m.restoring) (history e s k y safe d.moves)) ∙ restores));
-  }
-
   source_now : (ds : List TableDesc) → IsContent e ds → IsToldSource files_e ds y (lock_at e k) (session (machine e) k) (alone_of e k) (before_of e k) (see (machine e) k)
   source_now ds content =
       let told = (content.1 k d.moves.is).source in
@@ -259,9 +250,14 @@ module _ (e s : State) (k : ℕ) (safe : Safe e) (d : DoesLatch e s k) where
       }
 
   pub latch_keeps : Steps e s k
-  latch_keeps = seat_moves e s k y safe d.moves refl refl refl refl refl
+  latch_keeps = seat_moves e s k y safe d.moves (stays_put e.pages s.pages d.pages) (ap (λ (v : Shown). map snap_told (catalog v).snaps) d.pages) refl refl refl refl refl
+      (record {
+        reads = λ j c p is ne within at. ap (λ (v : Shown). marked_by v c p) d.pages;
+        marks = λ j c p is ne copied hold. ap (λ (v : Shown). marked_by v c p) d.pages;
+        sparse = λ j c p is ne copied hold kept. ap (λ (v : Shown). sparse_by v c p) d.pages;
+      })
       (λ j ne. ap (λ ls. latch_of ls (sess j)) d.latches ∙ latch_of-with_latch e.latches (sess k) (sess j) d.page d.mode (λ same. ne (ap (λ (w : SessNo). w.0) same)))
       (subst IsLatchBook (sym d.latches) (IsLatchBook-with_latch e.latches (sess k) d.page d.mode safe.whole.latches is_latcher d.granted))
-      (λ p. ap (λ (h : Grip). grip_pin h p + (gathered_on (seat e k).gathered p + count_on (seat e k).work.recs p)) (sym d.free))
-      own_kept
+      (λ p. (let same : pins s.pages p ≡ pins e.pages p = ap (λ (v : Shown). pins v p) d.pages in let free : seat_pins (seat e k) p ≡ seat_pins y p = ap (λ (h : Grip). grip_pin h p + (gathered_on (seat e k).gathered p + count_on (seat e k).work.recs p)) d.free in omega (arith, same, free)))
+      (record { seated = seated_now; beside = subst (λ (v : Shown). IsBeside v y) (sym d.pages) beside_now; script = refl; in_step = in_step_now; aside = λ who snap restores. absurd (no_restore who snap restores) })
       (λ ds content. (source_now ds content, reading_now ds content))

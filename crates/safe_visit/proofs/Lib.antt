@@ -1,3 +1,6 @@
-pub mod SeatMoves
+pub mod BeginKeeps
 pub mod LatchKeeps
 pub mod LookKeeps
+pub mod FetchKeeps
+pub mod ReadKeeps
+pub mod PassKeeps

@@ -1,5 +1,5 @@
 -- A look at a snapshot's map leaves to others what it owes them, and shows the rest.
-use Rattle.std.proofs.Common.{◌≡◌, ℕ, ◌-◌, List, [], refl, ap, sym, subst, ◌∙◌, inl}
+use Rattle.std.proofs.Common.{◌≡◌, ℕ, ◌-◌, List, [], refl, ap, sym, subst, ◌∙◌, inl, arith, inr, true, false, map}
 use Rattle.std.specs.Prelude.{Option, Some, None, slice_index_or}
 use Rattle.page_base.specs.declared.numbers.Mode.{Mode}
 use Rattle.page_base.specs.declared.numbers.PageId.{PageId}
@@ -9,9 +9,11 @@ use Rattle.latch_book.specs.declared.latch.LatchMode.TheVariants.{Sh, Ex}
 use Rattle.latch_book.specs.Latches.{Latches, latch_of, IsLatchBook}
 use Rattle.latch_book.proofs.LatchLemmas.{some_latch}
 use Rattle.plain_model.specs.State.{Plain, session, see}
-use Rattle.snap_pages.specs.Cuts.{marked_by}
-use Rattle.snap_pages.specs.Shown.{Shown, counts}
+use Rattle.snap_pages.specs.Cuts.{marked_by, sparse_by}
+use Rattle.snap_pages.specs.Shown.{Shown, counts, pins, catalog}
 use Rattle.sys_cat.specs.declared.desc.TableDesc.{TableDesc}
+use Rattle.step_state.specs.Whole.{snap_told}
+use Rattle.snap_cat.specs.Catalog.{Catalog}
 use Rattle.step_words.specs.Courses.{Course}
 use Rattle.step_words.specs.Sittings.{stmt_at, undoes_all}
 use Rattle.step_words.specs.Seats.{Seated, Free, Latched, latch_at}
@@ -24,7 +26,7 @@ use Rattle.step_state.specs.Told.{IsToldSource, IsToldReading}
 use Rattle.step_state.specs.Safe.{Safe, IsContent}
 use Rattle.step_state.specs.Steps.{Steps}
 use Rattle.safe_visit.specs.Looking.{seat_looked, DoesLook}
-use Rattle.safe_visit.proofs.SeatMoves.{history, now, held_same, files, seat_moves}
+use Rattle.step_state.proofs.MoveLemmas.{stays_put, seat_moves}
 
 some_is : {T : Type 0} (a b : T) → Some a ≡ Some b → a ≡ b
 some_is {T} a b e = ap pick e
@@ -118,6 +120,7 @@ module _ (e s : State) (k : ℕ) (safe : Safe e) (d : DoesLook e s k) where
     marks = λ c p copied ex sound. absurd (no_ex p ex);
     copies = λ c p copied ex kept. absurd (no_ex p ex);
     copied = me.beside.copied;
+    paid = λ c made at none sound. cc;
     made = me.beside.made;
     named = me.beside.named;
   }
@@ -131,22 +134,8 @@ module _ (e s : State) (k : ℕ) (safe : Safe e) (d : DoesLook e s k) where
     idle = me.in_step.idle;
     making = me.in_step.making;
     gone = me.in_step.gone ∙ ap is_gone d.at;
+    rested = λ t. me.in_step.rested (elim t [ | inl b ↦ absurd (let wrong : false ≡ true = b in cc) | inr none ↦ inr none ]);
     begun = λ f. me.in_step.begun (ap is_between d.at);
-  }
-
-  own_kept : IsSafeSession s k
-  own_kept = record {
-    seated = subst (λ x. IsSeated (counts s.pages) x (latch_of s.latches (sess k)) (lock_at s k)) (sym (now e s k y safe d.moves))
-        (subst (λ f. IsSeated f y (latch_of s.latches (sess k)) (lock_at s k)) (sym (files e s k y safe d.moves))
-        (subst (λ (ls : Latches). IsSeated files_e y (latch_of ls (sess k)) (lock_at s k)) (sym d.latches)
-        (subst (λ (h : ℕ → Option Mode). IsSeated files_e y (latch_of e.latches (sess k)) h) (sym (held_same e s k y safe d.moves k)) seated_now)));
-    beside = subst (λ x. IsBeside s.pages x) (sym (now e s k y safe d.moves)) (subst (λ (v : Shown). IsBeside v y) (sym d.moves.pages) beside_now);
-    script = ap (λ (x : Seated). x.sitting.script) (now e s k y safe d.moves) ∙ me.script ∙ ap (λ (m : Plain). slice_index_or m.scripts (k - 1) []) (sym (history e s k y safe d.moves));
-    in_step = subst (λ (m : Plain). IsInStep s.pages (seat s k) (session m k) m.moment) (sym (history e s k y safe d.moves))
-        (subst (λ x. IsInStep s.pages x (session (machine e) k) (machine e).moment) (sym (now e s k y safe d.moves)) (subst (λ (v : Shown). IsInStep v y (session (machine e) k) (machine e).moment) (sym d.moves.pages) in_step_now));
-    aside = λ who snap restores.
-        let old = me.aside who snap (sym (ap (λ (m : Plain). m.restoring) (history e s k y safe d.moves)) ∙ restores) in
-        absurd (let wrong : Latched d.page Sh ≡ Free = sym hold ∙ old.latch in cc);
   }
 
   source_now : (ds : List TableDesc) → IsContent e ds → IsToldSource files_e ds y (lock_at e k) (session (machine e) k) (alone_of e k) (before_of e k) (see (machine e) k)
@@ -172,9 +161,20 @@ module _ (e s : State) (k : ℕ) (safe : Safe e) (d : DoesLook e s k) where
       record { seen = old.seen; image = λ cut n p rows within place kept at found. cc; reply = old.reply }
 
   pub look_keeps : Steps e s k
-  look_keeps = seat_moves e s k y safe d.moves refl refl refl refl refl
+  look_keeps = seat_moves e s k y safe d.moves (stays_put e.pages s.pages d.pages) (ap (λ (v : Shown). map snap_told (catalog v).snaps) d.pages) refl refl refl refl refl
+      (record {
+        reads = λ j c p is ne within at. ap (λ (v : Shown). marked_by v c p) d.pages;
+        marks = λ j c p is ne copied hold. ap (λ (v : Shown). marked_by v c p) d.pages;
+        sparse = λ j c p is ne copied hold kept. ap (λ (v : Shown). sparse_by v c p) d.pages;
+      })
       (λ j ne. ap (λ ls. latch_of ls (sess j)) d.latches)
       (subst IsLatchBook (sym d.latches) safe.whole.latches)
-      (λ p. refl)
-      own_kept
+      (λ p. (let same : pins s.pages p ≡ pins e.pages p = ap (λ (v : Shown). pins v p) d.pages in omega (arith, same)))
+      (record {
+        seated = subst (λ (ls : Latches). IsSeated files_e y (latch_of ls (sess k)) (lock_at e k)) (sym d.latches) seated_now;
+        beside = subst (λ (v : Shown). IsBeside v y) (sym d.pages) beside_now;
+        script = refl;
+        in_step = in_step_now;
+        aside = λ who snap restores. (let old = me.aside who snap restores in absurd (let wrong : Latched d.page Sh ≡ Free = sym hold ∙ old.latch in cc));
+      })
       (λ ds content. (source_now ds content, reading_now ds content))

@@ -16,7 +16,7 @@ use Rattle.step_words.specs.Courses.{Course}
 use Rattle.step_words.specs.Seats.{Seated, Free, Latched}
 use Rattle.step_state.specs.State.{State, sess, seat}
 use Rattle.step_state.specs.Posed.{IsNextEdit}
-use Rattle.safe_visit.specs.Moving.{MovesSeat}
+use Rattle.step_state.specs.Moving.{MovesSeat}
 
 -- the page that a course reads next
 abbrev pub page_visited : Stage → Option PageId
@@ -54,4 +54,5 @@ pub record DoesLatch (e s : State) (k : ℕ) : Type 0 where
   pub free : (seat e k).hold ≡ Free
   pub granted : IsFree e.latches (sess k) page mode
   pub moves : MovesSeat e s k (seat_latched (seat e k) page mode next)
+  pub pages : s.pages ≡ e.pages
   pub latches : s.latches ≡ with_latch e.latches (sess k) page mode

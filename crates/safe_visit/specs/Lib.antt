@@ -1,3 +1,5 @@
-pub mod Moving
+pub mod Beginning
 pub mod Latching
 pub mod Looking
+pub mod Fetching
+pub mod Passing

@@ -5,7 +5,7 @@ use Rattle.snap_pages.specs.Cuts.{marked_by}
 use Rattle.step_words.specs.declared.point.Point.TheVariants.{Look, Fetch}
 use Rattle.step_words.specs.Seats.{Seated}
 use Rattle.step_state.specs.State.{State, seat}
-use Rattle.safe_visit.specs.Moving.{MovesSeat}
+use Rattle.step_state.specs.Moving.{MovesSeat}
 
 -- it remembers whether the snapshot's map has the page, and brings it in from there
 abbrev pub seat_looked : Seated → PageId → Bool → Seated
@@ -17,4 +17,5 @@ pub record DoesLook (e s : State) (k : ℕ) : Type 0 where
   pub cut : ℕ
   pub within : (seat e k).sitting.within ≡ Some cut
   pub moves : MovesSeat e s k (seat_looked (seat e k) page (marked_by e.pages cut page))
+  pub pages : s.pages ≡ e.pages
   pub latches : s.latches ≡ e.latches

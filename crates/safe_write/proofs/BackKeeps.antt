@@ -1,6 +1,6 @@
 -- A record taken back leaves to others what it owes them, and shows the rest.
-use Rattle.std.proofs.Common.{◌≡◌, ℕ, ◌+◌, ◌-◌, ◌≤◌, Bool, true, false, cond, List, refl, ap, ◌∙◌, arith}
-use Rattle.std.specs.Prelude.{Some}
+use Rattle.std.proofs.Common.{◌≡◌, ℕ, ◌+◌, ◌-◌, ◌≤◌, Bool, true, false, cond, List, refl, ap, ◌∙◌, arith, inl, inr}
+use Rattle.std.specs.Prelude.{Some, None}
 use Rattle.page_base.specs.declared.numbers.PageId.{PageId}
 use Rattle.page_base.specs.Pages.{is_page}
 use Rattle.latch_book.specs.Latches.{latch_of}
@@ -8,10 +8,12 @@ use Rattle.rec_log.specs.Records.{Record}
 use Rattle.snap_pages.specs.Owed.{count_on}
 use Rattle.snap_pages.proofs.PinLemmas.{count_on_push}
 use Rattle.snap_pages.specs.Shown.{counts, pins}
+use Rattle.step_words.specs.Sittings.{stmt_at}
 use Rattle.step_words.specs.Seats.{Seated, no_seat}
 use Rattle.step_state.specs.State.{State, sess, seat}
 use Rattle.step_state.specs.Holding.{lock_at}
 use Rattle.step_state.specs.Snapshots.{page_read}
+use Rattle.step_state.specs.Posed.{is_making}
 use Rattle.step_state.specs.Own.{IsSafeSession, is_between, is_gone}
 use Rattle.step_state.specs.Whole.{grip_pin, gathered_on, seat_pins, due_pins}
 use Rattle.step_state.specs.Safe.{Safe}
@@ -52,10 +54,11 @@ module _ (e s : State) (k : ℕ) (safe : Safe e) (d : DoesBack e s k) where
   own_kept = session_now e s k d.last.page y safe d.sets (lock_there e s k safe d)
       (seated_back (counts e.pages) (seat e k) (latch_of e.latches (sess k)) (lock_at e k) me.seated d.all d.at d.last d.records d.were d.sets.unmarked (lock_there e s k safe d))
       refl
-      (beside_now e s k d.last.page y safe d.sets unread refl refl refl refl)
+      (beside_now e s k d.last.page y safe d.sets unread refl (me.seated.posed.makes (ap is_making d.at)) refl refl refl)
       (in_step_now e s k d.last.page y safe d.sets refl refl refl refl refl refl (ap is_gone d.at)
       (by_back (counts e.pages) (seat e k) (latch_of e.latches (sess k)) (lock_at e k) me.seated d.all d.at d.last d.records d.were d.sets.unmarked (λ t. is_gone t ≡ false) (λ ne. refl) (λ same none. refl) (λ stmt same is. refl))
-      (ap is_between d.at))
+      (ap is_between d.at)
+      (λ t. elim t [ | inl q ↦ by_back (counts e.pages) (seat e k) (latch_of e.latches (sess k)) (lock_at e k) me.seated d.all d.at d.last d.records d.were d.sets.unmarked (λ t. is_between t ≡ true → stmt_at (seat e k).sitting ≡ None) (λ ne q. cc) (λ same none q. none) (λ stmt same is q. cc) q | inr none ↦ none ]))
 
   pub back_keeps : Steps e s k
   back_keeps = record {

@@ -1,5 +1,5 @@
 -- The session that takes a record back, by itself.
-use Rattle.std.proofs.Common.{eq-eqb, eqb-true, ◌≡◌, ◌≢◌, ℕ, ◌+◌, ◌≤◌, Bool, true, false, cond, ◌==◌, List, [], ◌∷◌, ◌++◌, length, refl, ap, sym, subst, ◌∙◌, arith}
+use Rattle.std.proofs.Common.{eq-eqb, eqb-true, ◌≡◌, ◌≢◌, ℕ, ◌+◌, ◌≤◌, Bool, true, false, cond, ◌==◌, List, [], ◌∷◌, ◌++◌, length, refl, ap, sym, subst, ◌∙◌, inl, arith}
 use Rattle.std.specs.Prelude.{Option, Some, None}
 use Rattle.std.proofs.lemmas.List.{length-append}
 use Rattle.page_base.specs.declared.numbers.Mode.{Mode}
@@ -49,7 +49,7 @@ module _ (files : List ℕ) (x : Seated) (latch : Option Latch) (held : ℕ → 
 
   posed_back : IsPosed files (seat_back all x records)
   posed_back = record {
-    grip = by_back (λ t. FitsGrip t x.sitting.found Free) (λ ne. tt) (λ same none. refl) (λ stmt same is. refl);
+    grip = by_back (λ t. FitsGrip t x.sitting.found Free) (λ ne. tt) (λ same none. refl) (λ stmt same is. inl refl);
     course = λ c is. absurd (no_course c is);
     changes = λ p e. absurd (by_back (λ t. t ≡ Change p → ⊥) (λ ne q. cc) (λ same none q. cc) (λ stmt same is q. cc) e);
     commits = λ e. absurd (by_back (λ t. t ≡ Commit → ⊥) (λ ne q. cc) (λ same none q. cc) (λ stmt same is q. cc) e);

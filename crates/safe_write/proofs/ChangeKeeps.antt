@@ -1,5 +1,5 @@
 -- A change leaves to others what it owes them, and shows the rest.
-use Rattle.std.proofs.Common.{◌≡◌, ◌≢◌, ℕ, ◌+◌, true, false, cond, [], ◌∷◌, ◌++◌, refl, ap, sym, ◌∙◌, inr, arith}
+use Rattle.std.proofs.Common.{◌≡◌, ◌≢◌, ℕ, ◌+◌, true, false, cond, [], ◌∷◌, ◌++◌, refl, ap, sym, ◌∙◌, inr, arith, inl}
 use Rattle.std.specs.Prelude.{Some, None}
 use Rattle.page_base.specs.declared.numbers.PageId.{PageId}
 use Rattle.page_base.specs.Pages.{is_page}
@@ -15,6 +15,7 @@ use Rattle.step_words.specs.Seats.{Seated}
 use Rattle.step_state.specs.State.{State, sess, seat, slots_at}
 use Rattle.step_state.specs.Holding.{lock_at}
 use Rattle.step_state.specs.Snapshots.{page_read}
+use Rattle.step_state.specs.Posed.{is_making}
 use Rattle.step_state.specs.Own.{IsSafeSession, is_between, is_gone}
 use Rattle.step_state.specs.Whole.{grip_pin, gathered_on, seat_pins}
 use Rattle.step_state.specs.Safe.{Safe}
@@ -57,8 +58,9 @@ module _ (e s : State) (k : ℕ) (safe : Safe e) (d : DoesChange e s k) where
   own_kept = session_now e s k d.page y safe d.sets lock_there
       (seated_after (counts e.pages) (seat e k) (latch_of e.latches (sess k)) (lock_at e k) me.seated d.page d.at d.course d.has d.draft d.drafts d.next (record_of (slots_at e) (next_write d.course d.draft)) d.sets.unmarked lock_there)
       refl
-      (beside_now e s k d.page y safe d.sets unread refl refl refl refl)
-      (in_step_now e s k d.page y safe d.sets refl refl refl refl refl refl (ap is_gone d.at) (by_point (λ t. is_gone t ≡ false) (seat e k).sitting d.course d.drafts refl refl (λ f later is. refl)) (ap is_between d.at))
+      (beside_now e s k d.page y safe d.sets unread refl (me.seated.posed.makes (ap is_making d.at)) refl refl refl)
+      (in_step_now e s k d.page y safe d.sets refl refl refl refl refl refl (ap is_gone d.at) (by_point (λ t. is_gone t ≡ false) (seat e k).sitting d.course d.drafts refl refl (λ f later is. refl)) (ap is_between d.at)
+      (λ t. elim t [ | inl b ↦ absurd (by_point (λ t. is_between t ≡ true → ⊥) (seat e k).sitting d.course d.drafts (λ q. cc) (λ q. cc) (λ f later is q. cc) b) | inr none ↦ none ]))
 
   pub change_keeps : Steps e s k
   change_keeps = record {

@@ -26,7 +26,8 @@ use Rattle.step_words.proofs.TakenLemmas.{none_left}
 use Rattle.step_state.specs.State.{State, IsSession, seat, works, many, machine, slots_at, settled_of, alone_of, before_of}
 use Rattle.step_state.specs.Holding.{writes, lock_at}
 use Rattle.step_state.specs.Own.{IsSafeSession}
-use Rattle.step_state.specs.Plans.{AreOnOwn, SpreadAll, IsPlanned}
+use Rattle.stmt_course.specs.Bringing.{AreOnOwn, SpreadAll}
+use Rattle.step_state.specs.Plans.{IsPlanned}
 use Rattle.step_state.specs.Told.{AreSeen, SeesSource, DifferAll, IsToldSource, IsToldReading, IsTold}
 use Rattle.step_state.specs.Safe.{Safe, IsContent}
 use Rattle.step_state.specs.Steps.{LeavesQuiet}
@@ -95,7 +96,7 @@ module _ (e s : State) (k : ℕ) (safe : Safe e) (d : DoesChange e s k) (ds : Li
           given = p.brings.given;
           own = λ f claimed ok. subst (λ ws. AreOnOwn (counts e.pages) (writes (lock_at e k)) (done ws (written (next_write d.course d.draft) (alone_of e k))) (edits_left (course_after d.course d.drafts) claimed)) (sym (none_claims claimed)) (own_now e s k safe d ds content f claimed ok.were).1;
           spread = λ t claimed ok. (subst (SpreadAll (counts e.pages) (alone_of e k)) (coming_is e s k safe d ds content claimed ok.were) (p.brings.spread t claimed (is_claimable e s k safe d ds content (alone_of e k) claimed ok.were))).1;
-          base = λ claimed ok. subst (λ ws. IsBase (counts e.pages) (sheets (done ws (alone_of e k))) p.after (apply (change_and_reply d.course.stmt (see (machine e) k)).0 (see (machine e) k))) (coming_is e s k safe d ds content claimed ok.were) (p.brings.base claimed (is_claimable e s k safe d ds content (alone_of e k) claimed ok.were));
+          base = λ claimed ok. subst (λ ws. IsBase (counts e.pages) (sheets (done ws (alone_of e k))) (p.after claimed) (apply (change_and_reply d.course.stmt (see (machine e) k)).0 (see (machine e) k))) (coming_is e s k safe d ds content claimed ok.were) (p.brings.base claimed (is_claimable e s k safe d ds content (alone_of e k) claimed ok.were));
         };
         same = p.same;
       }

@@ -1,5 +1,5 @@
 -- A claim leaves to others what it owes them, and shows the rest.
-use Rattle.std.proofs.Common.{◌≡◌, ℕ, ◌+◌, false, cond, [], ◌∷◌, ◌++◌, refl, ap, arith}
+use Rattle.std.proofs.Common.{◌≡◌, ℕ, ◌+◌, false, cond, [], ◌∷◌, ◌++◌, refl, ap, arith, inl, inr, true}
 use Rattle.std.specs.Prelude.{Some}
 use Rattle.page_base.specs.declared.numbers.PageId.{PageId}
 use Rattle.page_base.specs.Pages.{is_page}
@@ -14,7 +14,7 @@ use Rattle.step_words.specs.Seats.{Seated}
 use Rattle.step_state.specs.State.{State, sess, seat, slots_at}
 use Rattle.step_state.specs.Holding.{lock_at}
 use Rattle.step_state.specs.Snapshots.{page_read}
-use Rattle.step_state.specs.Posed.{IsRecordOf}
+use Rattle.step_state.specs.Posed.{is_making, IsRecordOf}
 use Rattle.step_state.specs.Own.{IsSafeSession, is_between, is_gone}
 use Rattle.step_state.specs.Whole.{grip_pin, gathered_on, seat_pins}
 use Rattle.step_state.specs.Safe.{Safe}
@@ -54,8 +54,9 @@ module _ (e s : State) (k : ℕ) (safe : Safe e) (d : DoesClaim e s k) where
   own_kept = session_now e s k d.page y safe d.sets (lock_there e s k safe d)
       (seated_then (counts e.pages) (seat e k) (latch_of e.latches (sess k)) (lock_at e k) me.seated d.number d.at d.course d.has d.numbers d.next d.target d.may_be_named d.there its_record record_is d.sets.unmarked (lock_there e s k safe d))
       refl
-      (beside_now e s k d.page y safe d.sets unread refl refl refl refl)
-      (in_step_now e s k d.page y safe d.sets refl refl refl refl refl refl (ap is_gone d.at) (at_then (counts e.pages) (seat e k) (latch_of e.latches (sess k)) (lock_at e k) me.seated d.number d.at d.course d.has d.numbers d.next d.target d.may_be_named d.there its_record record_is d.sets.unmarked (λ t. is_gone t ≡ false) refl refl (λ f later none is. refl) (λ n ns is. refl)) (ap is_between d.at))
+      (beside_now e s k d.page y safe d.sets unread refl (me.seated.posed.makes (ap is_making d.at)) refl refl refl)
+      (in_step_now e s k d.page y safe d.sets refl refl refl refl refl refl (ap is_gone d.at) (at_then (counts e.pages) (seat e k) (latch_of e.latches (sess k)) (lock_at e k) me.seated d.number d.at d.course d.has d.numbers d.next d.target d.may_be_named d.there its_record record_is d.sets.unmarked (λ t. is_gone t ≡ false) refl refl (λ f later none is. refl) (λ n ns is. refl)) (ap is_between d.at)
+      (λ t. elim t [ | inl b ↦ absurd (at_then (counts e.pages) (seat e k) (latch_of e.latches (sess k)) (lock_at e k) me.seated d.number d.at d.course d.has d.numbers d.next d.target d.may_be_named d.there its_record record_is d.sets.unmarked (λ t. is_between t ≡ true → ⊥) (λ q. cc) (λ q. cc) (λ f later none is q. cc) (λ n ns is q. cc) b) | inr none ↦ none ]))
 
   pub claim_keeps : Steps e s k
   claim_keeps = record {

@@ -46,7 +46,8 @@ use Rattle.plain_steps.specs.Phases.{first_mode}
 use Rattle.step_state.specs.State.{State, IsSession, seat, works, many, machine, slots_at, settled_of, alone_of, before_of}
 use Rattle.step_state.specs.Holding.{holds_all, writes, lock_at}
 use Rattle.step_state.specs.Own.{IsSafeSession}
-use Rattle.step_state.specs.Plans.{AreOnOwn, SpreadAll, IsGiven, IsPlanned}
+use Rattle.stmt_course.specs.Bringing.{AreOnOwn, SpreadAll, IsGiven}
+use Rattle.step_state.specs.Plans.{IsPlanned}
 use Rattle.step_state.specs.Posed.{IsOnCourse, IsRecordOf}
 use Rattle.step_state.specs.Told.{AreSeen, SeesSource, DifferAll, IsToldSource, IsToldReading, IsTold}
 use Rattle.step_state.specs.Safe.{Safe, IsContent}
@@ -253,7 +254,7 @@ module _ (e s : State) (k : ℕ) (safe : Safe e) (d : DoesClaim e s k) where
         given = λ f. subst (λ ns. AllByRecursion (IsGiven (writes (lock_at e k))) ns) (sym (ap (λ n. drop n d.course.owners) long ∙ drop_next d.course.owners (length d.course.taken) d.number d.numbers d.next)) (given_left f).1;
         own = λ f claimed ok. subst (λ ws. AreOnOwn (counts e.pages) (writes (lock_at e k)) (done ws (alone_of e k)) (edits_left d.course claimed)) (claims_come claimed ok) (plan.brings.own f claimed (ok_before claimed ok));
         spread = λ t claimed ok. (subst (SpreadAll (counts e.pages) (alone_of e k)) (comes claimed ok) (plan.brings.spread t claimed (ok_before claimed ok))).1;
-        base = λ claimed ok. subst (λ ws. IsBase (counts e.pages) (sheets (done ws (alone_of e k))) plan.after (apply (change_and_reply d.course.stmt (see (machine e) k)).0 (see (machine e) k))) (comes claimed ok) (plan.brings.base claimed (ok_before claimed ok));
+        base = λ claimed ok. subst (λ ws. IsBase (counts e.pages) (sheets (done ws (alone_of e k))) (plan.after claimed) (apply (change_and_reply d.course.stmt (see (machine e) k)).0 (see (machine e) k))) (comes claimed ok) (plan.brings.base claimed (ok_before claimed ok));
       };
       same = plan.same;
     }

@@ -12,3 +12,4 @@ pub mod BackSeat
 pub mod BackLemmas
 pub mod BackTold
 pub mod BackKeeps
+pub mod PushKeeps

@@ -1,6 +1,6 @@
 -- What a step that writes one page leaves of the whole, and of others, whatever the files tell.
-use Rattle.std.proofs.Common.{◌-◌, ◌≡◌, ◌≢◌, ℕ, ◌+◌, ◌≤◌, false, cond, List, [], length, refl, ap, sym, subst, ◌∙◌, inl, arith}
-use Rattle.std.specs.Prelude.{Option, Some, None, slice_index_or, unwrap_or}
+use Rattle.std.proofs.Common.{◌-◌, ◌≡◌, ◌≢◌, ℕ, ◌+◌, ◌≤◌, false, cond, List, [], length, refl, ap, sym, subst, ◌∙◌, inl, arith, inr, true}
+use Rattle.std.specs.Prelude.{Option, Some, None, slice_index_or, unwrap_or, ◌⊎◌}
 use Rattle.page_base.specs.declared.numbers.PageId.{PageId}
 use Rattle.page_base.specs.declared.numbers.SessNo.{SessNo}
 use Rattle.page_base.proofs.PagesLemmas.{is_page-other}
@@ -12,6 +12,7 @@ use Rattle.lock_book.specs.Locks.{lock_of, IsLockBook}
 use Rattle.plain_model.specs.State.{Plain, session}
 use Rattle.snap_cat.specs.Catalog.{Catalog}
 use Rattle.snap_pages.specs.Shown.{catalog, counts, img, pins}
+use Rattle.step_words.specs.Sittings.{stmt_at}
 use Rattle.step_words.specs.Seats.{Seated}
 use Rattle.step_state.specs.State.{State, IsSession, sess, seat, machine}
 use Rattle.step_state.specs.Holding.{lock_at}
@@ -80,7 +81,7 @@ module _ (e s : State) (k : ℕ) (page : PageId) (y : Seated) (safe : Safe e) (d
     latches = λ j ne. ap (λ ls. latch_of ls (sess j)) d.latches ∙ latch_of-without_latch e.latches (sess k) (sess j) (λ same. ne (ap (λ (w : SessNo). w.0) same));
     locks = λ j ne. held_same j;
     files = d.places.counts;
-    snaps = leaves_same e s k safe.sessions d.snaps d.places d.views (λ j p is ne hold. image_else p (latch_apart j p is ne hold));
+    snaps = leaves_same e s k safe.sessions d.snaps d.places d.views (λ j c p is ne copied hold. image_else p (latch_apart j p is ne hold));
     sessions = λ j is ne. ap (λ (m : Plain). session m j) history;
     scripts = ap (λ (m : Plain). m.scripts) history;
     later = (let same : (machine s).moment ≡ (machine e).moment = ap (λ (m : Plain). m.moment) history in omega (arith, same));
@@ -98,12 +99,13 @@ module _ (e s : State) (k : ℕ) (page : PageId) (y : Seated) (safe : Safe e) (d
   none_copied : y.copied ≡ (seat e k).copied → (c : ℕ) → y.copied ≡ Some c → ⊥
   none_copied same c at = (let wrong : None ≡ Some c = sym d.unmarked ∙ sym same ∙ at in cc)
 
-  pub beside_now : ((p : PageId) → page_read y.sitting.point ≡ Some p → ⊥) → y.copied ≡ (seat e k).copied → y.making ≡ (seat e k).making → y.sitting.within ≡ (seat e k).sitting.within → y.sitting.current ≡ (seat e k).sitting.current → IsBeside s.pages (seat s k)
-  beside_now unread copied making within current = subst (IsBeside s.pages) (sym now) (record {
+  pub beside_now : ((p : PageId) → page_read y.sitting.point ≡ Some p → ⊥) → y.copied ≡ (seat e k).copied → (seat e k).making ≡ None → y.making ≡ (seat e k).making → y.sitting.within ≡ (seat e k).sitting.within → y.sitting.current ≡ (seat e k).sitting.current → IsBeside s.pages (seat s k)
+  beside_now unread copied none making within current = subst (IsBeside s.pages) (sym now) (record {
     reads = λ c p in_it at. absurd (unread p at);
     marks = λ c p at hold sound. absurd (none_copied copied c at);
     copies = λ c p at hold kept. absurd (none_copied copied c at);
     copied = λ c at. absurd (none_copied copied c at);
+    paid = λ c at says waits sound. absurd (let wrong : None ≡ Some c = sym (making ∙ none) ∙ at in cc);
     made = λ c at. let old = me.beside.made c (sym making ∙ at) in (omega (arith, old.0, cut_same), open_same e s k safe.sessions d.snaps d.places d.views c ∙ old.1);
     named = λ c at. let old = me.beside.named c (sym within ∙ at) in (omega (arith, old.0, cut_same), name_same e s k safe.sessions d.snaps d.places d.views c ∙ old.1 ∙ ap (λ n. Some n) (sym current));
   })
@@ -113,8 +115,8 @@ module _ (e s : State) (k : ℕ) (page : PageId) (y : Seated) (safe : Safe e) (d
   making_same (Some c) = name_same e s k safe.sessions d.snaps d.places d.views c
 
   pub in_step_now : y.sitting.said ≡ (seat e k).sitting.said → y.sitting.current ≡ (seat e k).sitting.current → y.sitting.depth ≡ (seat e k).sitting.depth → y.sitting.level ≡ (seat e k).sitting.level
-      → y.making ≡ (seat e k).making → y.began ≡ (seat e k).began → is_gone (seat e k).sitting.point ≡ false → is_gone y.sitting.point ≡ false → is_between (seat e k).sitting.point ≡ false → IsInStep s.pages (seat s k) (session (machine s) k) (machine s).moment
-  in_step_now said current depth level making began there still going =
+      → y.making ≡ (seat e k).making → y.began ≡ (seat e k).began → is_gone (seat e k).sitting.point ≡ false → is_gone y.sitting.point ≡ false → is_between (seat e k).sitting.point ≡ false → ((is_between y.sitting.point ≡ true) ⊎ (stmt_at y.sitting ≡ None) → stmt_at (seat e k).sitting ≡ None) → IsInStep s.pages (seat s k) (session (machine s) k) (machine s).moment
+  in_step_now said current depth level making began there still going rested =
       subst (λ (m : Plain). IsInStep s.pages (seat s k) (session m k) m.moment) (sym history) (subst (λ x. IsInStep s.pages x (session (machine e) k) (machine e).moment) (sym now) (record {
         said = me.in_step.said ∙ sym said;
         current = me.in_step.current ∙ sym current;
@@ -123,6 +125,7 @@ module _ (e s : State) (k : ℕ) (page : PageId) (y : Seated) (safe : Safe e) (d
         idle = me.in_step.idle;
         making = me.in_step.making ∙ sym (making_same (seat e k).making) ∙ ap (making_in s.pages) (sym making);
         gone = me.in_step.gone ∙ there ∙ sym still;
+        rested = λ t. me.in_step.rested (inr (rested t));
         begun = λ f. let old = me.in_step.begun going in (subst (λ n. (session (machine e) k).since ≤ n) (sym began) old.0, subst (λ n. n ≤ unwrap_or (session (machine e) k).first (machine e).moment) (sym began) old.1);
       }))
 

@@ -45,7 +45,8 @@ use Rattle.step_state.specs.State.{State, IsSession, seat, works, many, machine,
 use Rattle.step_state.specs.Holding.{holds_all, writes, lock_at}
 use Rattle.step_state.specs.Posed.{IsOnCourse, IsDraftOn, IsEditOn, NamesBelow}
 use Rattle.step_state.specs.Own.{IsSafeSession}
-use Rattle.step_state.specs.Plans.{AreOnOwn, SpreadAll, IsPlanned}
+use Rattle.stmt_course.specs.Bringing.{AreOnOwn, SpreadAll}
+use Rattle.step_state.specs.Plans.{IsPlanned}
 use Rattle.step_state.specs.Told.{AreSized, SpreadBack, GoBack}
 use Rattle.step_state.specs.Safe.{Safe, IsContent}
 use Rattle.step_state.proofs.PageLemmas.{page_is_small}

@@ -2,3 +2,4 @@ pub mod Setting
 pub mod Changing
 pub mod Claiming
 pub mod Backing
+pub mod Pushing

@@ -14,7 +14,7 @@ use Rattle.page_fmt.specs.Seen.{Looked}
 use Rattle.plain_model.specs.State.{Plain, Session, session, see, copy}
 use Rattle.plain_model.specs.Meaning.{change_and_reply}
 use Rattle.plain_model.specs.Tables.{Tables}
-use Rattle.snap_pages.specs.Cuts.{place_of, marked_by, sparse_by, is_sound_by}
+use Rattle.snap_pages.specs.Cuts.{place_of, marked_by, sparse_by, is_sound_by, owed_by}
 use Rattle.snap_pages.specs.Shown.{Shown, catalog, counts, img}
 use Rattle.snap_pages.specs.Views.{IsKept, view}
 use Rattle.sys_cat.specs.declared.desc.TableDesc.{TableDesc}
@@ -61,6 +61,7 @@ module _ (e s : State) (k : ℕ) (g : Guards e s k) (j : ℕ) (is : IsSession e 
     copies = λ c p copied hold kept.
         let old = g.snaps.bytes j c p is ne copied hold kept in
         old.1 ∙ b.copies c p copied hold old.0 ∙ sym old.2;
+    paid = λ c making at none sound. g.snaps.owed j c is ne making ∙ b.paid c making at none (g.snaps.sound c (b.made c making).0 sound);
     copied = λ c copied. let lt = b.copied c copied in omega (arith, lt, g.snaps.rises);
     made = λ c made. let old = b.made c made in (omega (arith, old.0, g.snaps.rises), (g.snaps.made j c is ne made).1);
     named = λ c within. let old = b.named c within in (omega (arith, old.0, g.snaps.rises), g.snaps.named j c is ne within ∙ old.1);
@@ -88,6 +89,7 @@ module _ (e s : State) (k : ℕ) (g : Guards e s k) (j : ℕ) (is : IsSession e 
     idle = a.idle;
     making = a.making ∙ sym making_same;
     gone = a.gone;
+    rested = λ t. let old = a.rested t in (old.0, omega (arith, old.1, g.later));
     begun = λ f. let old = a.begun f in (old.0, later (session (machine e) j).first old.1);
   }
     where

@@ -6,3 +6,6 @@ pub mod StandingLemmas
 pub mod AlongLemmas
 pub mod SameLemmas
 pub mod KeptLemmas
+pub mod MoveLemmas
+pub mod ApartLemmas
+pub mod TurnLemmas

@@ -16,7 +16,7 @@ use Rattle.rec_log.specs.Undone.{undone}
 use Rattle.sparse_set.specs.Sparse.{Sparse, is_copied, sparse_page}
 use Rattle.snap_cat.specs.declared.snapshot.SnapState.TheVariants.{Online}
 use Rattle.snap_cat.specs.Catalog.{Snap, Catalog, IsCatalog, snap_at}
-use Rattle.snap_pages.specs.Cuts.{place_of, snap_by, is_open_by, marked_by, sparse_by, is_sound_by}
+use Rattle.snap_pages.specs.Cuts.{place_of, snap_by, is_open_by, marked_by, sparse_by, is_sound_by, owed_by}
 use Rattle.snap_pages.specs.Dues.{is_sound}
 use Rattle.snap_pages.specs.Shown.{Shown, catalog, count, counts, img, pins, set_of, state_of, owes_of, IsOpen, IsWhole}
 use Rattle.snap_pages.specs.Slots.{slots_of}
@@ -44,27 +44,31 @@ module _ (e s : State) (k : ℕ) (safe : (j : ℕ) → IsSession e j → IsSafeS
   pub open_same : (c : ℕ) → is_open_by s.pages c ≡ is_open_by e.pages c
   open_same c = ap (λ o. is_some {T = Snap × Sparse} o) (snaps_stay e.pages s.pages same c)
 
-  marked_same : (c : ℕ) (p : PageId) → marked_by s.pages c p ≡ marked_by e.pages c p
+  pub marked_same : (c : ℕ) (p : PageId) → marked_by s.pages c p ≡ marked_by e.pages c p
   marked_same c p = ap (λ o. option_map_or (λ (f : Snap × Sparse). is_copied f.1 p) o false) (snaps_stay e.pages s.pages same c)
 
-  sparse_same : (c : ℕ) (p : PageId) → sparse_by s.pages c p ≡ sparse_by e.pages c p
+  pub sparse_same : (c : ℕ) (p : PageId) → sparse_by s.pages c p ≡ sparse_by e.pages c p
   sparse_same c p = ap (λ o. option_map_or (λ (f : Snap × Sparse). sparse_page f.1 p) o blank) (snaps_stay e.pages s.pages same c)
 
-  sound_same : (c : ℕ) → is_sound_by s.pages c ≡ is_sound_by e.pages c
+  pub sound_same : (c : ℕ) → is_sound_by s.pages c ≡ is_sound_by e.pages c
   sound_same c = ap (λ o. option_map_or (λ (f : Snap × Sparse). is_sound f.0.state) o false) (snaps_stay e.pages s.pages same c)
 
-  kept_before : (c : ℕ) → IsKeptBy s.pages c → IsKeptBy e.pages c
+  pub owed_same : (c : ℕ) → owed_by s.pages c ≡ owed_by e.pages c
+  owed_same c = ap (λ o. option_map_or (λ (f : Snap × Sparse). f.0.owed.recs) o []) (snaps_stay e.pages s.pages same c)
+
+  pub kept_before : (c : ℕ) → IsKeptBy s.pages c → IsKeptBy e.pages c
   kept_before c kept = (kept.0, (λ i. sym places.places i c) ∙ kept.1, (views.each kept.0 kept.2).0)
 
-  pub leaves_same : ((j : ℕ) (p : PageId) → IsSession e j → j ≢ k → HoldsEx (seat e j) p → img s.pages p ≡ img e.pages p) → LeavesSnaps e s k
+  pub leaves_same : ((j c : ℕ) (p : PageId) → IsSession e j → j ≢ k → (seat e j).copied ≡ Some c → HoldsEx (seat e j) p → img s.pages p ≡ img e.pages p) → LeavesSnaps e s k
   leaves_same held = record {
     rises = (let e : (catalog e.pages).next_cut ≡ (catalog s.pages).next_cut = ap (λ (c : Catalog). c.next_cut) (sym same.cat) in omega (arith, e));
     named = λ j c is ne within. name_same c;
     made = λ j c is ne making. (name_same c, open_same c ∙ ((safe j is).beside.made c making).1);
+    owed = λ j c is ne making. owed_same c;
     sound = λ c lt t. sym (sound_same c) ∙ t;
     reads = λ j c p is ne within at. marked_same c p;
     marks = λ j c p is ne copied hold sound. marked_same c p;
-    bytes = λ j c p is ne copied hold kept. (kept_before c kept, sparse_same c p, held j p is ne hold);
+    bytes = λ j c p is ne copied hold kept. (kept_before c kept, sparse_same c p, held j c p is ne copied hold);
   }
 
   -- AND BY THEIR PLACES, WHERE ALL FILES TELL
@@ -135,6 +139,9 @@ module _ (e s : State) (k : ℕ) (is : IsSession e k) (x : Seated) (whole : IsWh
         let owed : snaps_pins (catalog s.pages).snaps p ≡ snaps_pins (catalog e.pages).snaps p = ap (λ (c : Catalog). snaps_pins c.snaps p) same.cat in
         omega (arith, pinned p, whole.pinned p, moved, due, owed);
     paid = λ n there online. ap (λ (c : Catalog). (snap_at c n).owed.recs) same.cat ∙ whole.paid n (omega (arith, there, places.count)) (sym (ap (λ (c : Catalog). (snap_at c n).state) same.cat) ∙ online);
+    makers = λ n there makes.
+        let old = whole.makers n (omega (arith, there, places.count)) (sym (ap (λ (c : Catalog). (snap_at c n).state) same.cat) ∙ makes) in
+        (old.0, record { first = old.1.first; last = omega (arith, old.1.last, seats_many) }, kept_field (λ (y : Seated). y.making) making old.0 ∙ old.2 ∙ ap (λ (c : Catalog). Some (snap_at c n).cut) (sym same.cat));
     snaps = snaps_kept ∙ whole.snaps ∙ ap (λ (c : Catalog). map snap_told c.snaps) (sym same.cat);
     cut = cut_kept ∙ whole.cut ∙ ap (λ (c : Catalog). c.next_cut) (sym same.cat);
     reverts = λ who snap now.

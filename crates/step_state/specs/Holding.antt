@@ -1,7 +1,6 @@
 -- Which tables a session holds, by their numbers: the table of tables has 0.
-use Rattle.std.specs.Prelude.{ℕ, ◌≡◌, ◌-◌, Bool, true, false, ◌==◌, ◌&&◌, not, List, Option, Some, None, find}
+use Rattle.std.specs.Prelude.{ℕ, ◌≡◌, ◌-◌, Bool, true, false, ◌==◌, ◌&&◌, not, List, Option, Some, None}
 use Rattle.std.specs.Option.{option_map_or}
-use Rattle.std.specs.Str.{bytes_eq}
 use Rattle.page_base.specs.declared.numbers.Mode.{Mode}
 use Rattle.page_base.specs.declared.numbers.Mode.TheVariants.{S, X}
 use Rattle.plain_model.specs.declared.event.LockName.{LockName}
@@ -10,6 +9,7 @@ use Rattle.lock_book.specs.Locks.{lock_of}
 use Rattle.sys_cat.specs.declared.desc.TableDesc.{TableDesc}
 use Rattle.plain_steps.specs.Modes.{suffices}
 use Rattle.plain_steps.specs.Phases.{first_mode, second_mode}
+pub use Rattle.stmt_course.specs.Knowing.{desc_named}
 use Rattle.step_words.specs.Courses.{Course, is_past_all, is_past_table}
 use Rattle.step_state.specs.State.{State, sess}
 
@@ -33,10 +33,6 @@ is_of_table o = not (o == 0) && not (o == 4294967295)
 -- whether a session may write pages of this owner: those of a table that it holds in X
 abbrev pub writes : (ℕ → Option Mode) → ℕ → Bool
 writes held o = is_of_table o && is_x (held (o - 1))
-
--- the table of a name, if it is described
-abbrev pub desc_named : List TableDesc → List ℕ → Option TableDesc
-desc_named ds name = find (λ d. bytes_eq d.name name) ds
 
 -- the mode in which is held what a lock's name says
 abbrev pub lock_named : (ℕ → Option Mode) → List TableDesc → LockName → Option Mode

@@ -8,3 +8,5 @@ pub mod Plans
 pub mod Told
 pub mod Safe
 pub mod Steps
+pub mod Moving
+pub mod Going

@@ -8,6 +8,7 @@ use Rattle.plain_model.specs.declared.stmt.Stmt.{Stmt}
 use Rattle.plain_model.specs.State.{Plain, Session, session, master}
 use Rattle.snap_pages.specs.Shown.{Shown, counts}
 use Rattle.page_tables.specs.Owners.{is_there}
+use Rattle.step_words.specs.Sittings.{stmt_at}
 use Rattle.step_words.specs.declared.point.Point.{Point}
 use Rattle.step_words.specs.declared.point.Point.TheVariants.{Latch as Latching, Look, Fetch, Take, Change, Commit, Start, Leave, Gone}
 use Rattle.step_words.specs.declared.stage.DbKind.TheVariants.{Source}
@@ -66,6 +67,8 @@ pub record IsInStep (v : Shown) (x : Seated) (m : Session) (moment : ℕ) : Type
   pub idle : m.depth ≡ 0 → m.work ≡ []
   pub making : m.making ≡ making_in v x.making
   pub gone : m.gone ≡ is_gone x.sitting.point
+  -- between statements, and once it has none left, nothing was said since its last reply
+  pub rested : (is_between x.sitting.point ≡ true) ⊎ (stmt_at x.sitting ≡ None) → (m.first ≡ None) × (m.since ≤ moment)
   pub begun : is_between x.sitting.point ≡ false → (m.since ≤ x.began) × (x.began ≤ unwrap_or m.first moment)
 
 -- while somebody reverts the source to a snapshot, a session stands aside: it holds nothing, and is in neither database

@@ -32,6 +32,8 @@ FitsGrip (Change p) found hold = hold ≡ Fetched p Ex
 FitsGrip (Claim owner) found hold = Unit {0}
 FitsGrip (Undo all) found hold = Unit {0}
 FitsGrip Heal found hold = Unit {0}
+-- a page of a snapshot that couldn't be read is let go with the answer
+FitsGrip Say found hold = (hold ≡ Free) ⊎ ((found ≡ true) × ((p : PageId) × (hold ≡ Latched p Sh)))
 FitsGrip point found hold = hold ≡ Free
 
 -- at these points no statement on tables is under way, and at some no transaction is either

@@ -1,5 +1,5 @@
 -- What a session holds of snapshots, by the numbers of their cuts.
-use Rattle.std.specs.Prelude.{ℕ, ◌≡◌, ◌⊎◌, ◌<◌, Bool, true, false, List, Option, Some, None, IsTrue, option_map}
+use Rattle.std.specs.Prelude.{ℕ, ◌≡◌, ◌⊎◌, ◌<◌, Bool, true, false, List, [], Option, Some, None, IsTrue, option_map}
 use Rattle.page_base.specs.declared.numbers.PageId.{PageId}
 use Rattle.page_base.specs.declared.numbers.SnapNo.{SnapNo}
 use Rattle.latch_book.specs.declared.latch.LatchMode.TheVariants.{Ex}
@@ -7,9 +7,9 @@ use Rattle.sparse_set.specs.Sparse.{Sparse}
 use Rattle.snap_cat.specs.Catalog.{Snap}
 use Rattle.snap_pages.specs.Shown.{Shown, catalog, img}
 use Rattle.snap_pages.specs.Views.{IsKept, view}
-use Rattle.snap_pages.specs.Cuts.{place_of, snap_by, is_open_by, marked_by, sparse_by, is_sound_by}
+use Rattle.snap_pages.specs.Cuts.{place_of, snap_by, is_open_by, marked_by, sparse_by, is_sound_by, owed_by}
 use Rattle.step_words.specs.declared.point.Point.{Point}
-use Rattle.step_words.specs.declared.point.Point.TheVariants.{Fetch, Take}
+use Rattle.step_words.specs.declared.point.Point.TheVariants.{Fetch, Take, Say}
 use Rattle.step_words.specs.Seats.{Seated, Grip, latch_at}
 use Rattle.latch_book.specs.declared.latch.Latch.{Latch}
 
@@ -38,6 +38,8 @@ pub record IsBeside (v : Shown) (x : Seated) : Type 0 where
   -- between copy and mark the snapshot lacks the page, if it is still there and not suspect, and its file has the page's image
   pub marks : (c : ℕ) (p : PageId) → x.copied ≡ Some c → HoldsEx x p → is_sound_by v c ≡ true → marked_by v c p ≡ false
   pub copies : (c : ℕ) (p : PageId) → x.copied ≡ Some c → HoldsEx x p → IsKeptBy v c → sparse_by v c p ≡ img v p
+  -- once it answers, a snapshot in its making that is to be used owes nothing
+  pub paid : (c : ℕ) → x.making ≡ Some c → x.sitting.point ≡ Say → x.sitting.waiting ≡ None → is_sound_by v c ≡ true → owed_by v c ≡ []
   -- the snapshots that it names were cut, and the one that is its database is there under its name
   pub copied : (c : ℕ) → x.copied ≡ Some c → c < (catalog v).next_cut
   pub made : (c : ℕ) → x.making ≡ Some c → (c < (catalog v).next_cut) × (is_open_by v c ≡ true)

@@ -5,7 +5,7 @@ use Rattle.page_base.specs.declared.numbers.SnapNo.{SnapNo}
 use Rattle.latch_book.specs.declared.latch.Latch.{Latch}
 use Rattle.latch_book.specs.Latches.{latch_of}
 use Rattle.plain_model.specs.State.{session, see, copy}
-use Rattle.snap_pages.specs.Cuts.{place_of, is_open_by, marked_by, sparse_by, is_sound_by}
+use Rattle.snap_pages.specs.Cuts.{place_of, is_open_by, marked_by, sparse_by, is_sound_by, owed_by}
 use Rattle.snap_pages.specs.Shown.{Shown, catalog, counts, img}
 use Rattle.snap_pages.specs.Views.{IsKept, view}
 use Rattle.sys_cat.specs.declared.desc.TableDesc.{TableDesc}
@@ -24,6 +24,7 @@ pub record LeavesSnaps (e s : State) (k : ℕ) : Type 0 where
   -- another's database stays under its name, and so does what another makes
   pub named : (j c : ℕ) → IsSession e j → j ≢ k → (seat e j).sitting.within ≡ Some c → name_by s.pages c ≡ name_by e.pages c
   pub made : (j c : ℕ) → IsSession e j → j ≢ k → (seat e j).making ≡ Some c → (name_by s.pages c ≡ name_by e.pages c) × (is_open_by s.pages c ≡ true)
+  pub owed : (j c : ℕ) → IsSession e j → j ≢ k → (seat e j).making ≡ Some c → owed_by s.pages c ≡ owed_by e.pages c
   -- none that was suspect is sound
   pub sound : (c : ℕ) → c < (catalog e.pages).next_cut → is_sound_by s.pages c ≡ true → is_sound_by e.pages c ≡ true
   -- under another's latch no map changes, and under one in EX neither the page nor a copy of it

@@ -9,7 +9,7 @@ use Rattle.plain_model.specs.State.{Plain, Snap as PlainSnap, master}
 use Rattle.snap_cat.specs.declared.snapshot.SnapState.{SnapState}
 use Rattle.snap_cat.specs.declared.snapshot.SnapState.TheVariants.{Making, Online, Suspect}
 use Rattle.snap_cat.specs.Catalog.{Snap, IsCatalog, snap_at}
-use Rattle.snap_pages.specs.Shown.{Shown, catalog, count, pins, set_of, state_of, owes_of, IsOpen, IsWhole}
+use Rattle.snap_pages.specs.Shown.{Shown, catalog, count, pins, set_of, state_of, owes_of, cut_of, IsOpen, IsWhole}
 use Rattle.snap_pages.specs.Owed.{count_on}
 use Rattle.sparse_set.specs.Sparse.{is_copied}
 use Rattle.std.specs.List.{AllByRecursion}
@@ -69,6 +69,8 @@ pub record IsWholeSafe (e : State) : Type 0 where
   pub pinned : (p : PageId) → pins e.pages p ≡ due_pins e p
   -- a snapshot that is in use owes nothing
   pub paid : (s : SnapNo) → IsOpen e.pages s → state_of e.pages s ≡ Online → owes_of e.pages s ≡ []
+  -- a snapshot in the making is made by somebody
+  pub makers : (n : SnapNo) → IsOpen e.pages n → state_of e.pages n ≡ Making → (k : ℕ) × IsSession e k × ((seat e k).making ≡ Some (cut_of e.pages n))
   -- the plain machine has the snapshots that the catalog has
   pub snaps : (machine e).snaps ≡ map snap_told (catalog e.pages).snaps
   pub cut : (machine e).next_cut ≡ (catalog e.pages).next_cut

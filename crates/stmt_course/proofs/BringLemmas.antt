@@ -31,11 +31,11 @@ use Rattle.step_words.specs.Courses.{Course, Plain}
 use Rattle.step_words.specs.Coming.{coming, claims_of, claims_left, edits_left, draft_write}
 use Rattle.stmt_course.specs.Bringing.{AreOnOwn, SpreadAll, IsGiven, Brings}
 
-claims_same : (number : ℕ) (claimed : ℕ → PageId) (n i : ℕ) → claims_of (replicate n number) i claimed ≡ claims_from number claimed i n
+pub claims_same : (number : ℕ) (claimed : ℕ → PageId) (n i : ℕ) → claims_of (replicate n number) i claimed ≡ claims_from number claimed i n
 claims_same number claimed zero i = refl
 claims_same number claimed (suc n) i = ap (λ ws. claim number (claimed i) ∷ ws) (claims_same number claimed n (i + 1))
 
-drafts_same : (claimed : ℕ → PageId) (edits : List Edit) → map (draft_write claimed) (map Plain edits) ≡ map (write_of claimed) edits
+pub drafts_same : (claimed : ℕ → PageId) (edits : List Edit) → map (draft_write claimed) (map Plain edits) ≡ map (write_of claimed) edits
 drafts_same claimed [] = refl
 drafts_same claimed (e ∷ es) = ap (λ ws. write_of claimed e ∷ ws) (drafts_same claimed es)
 
@@ -113,7 +113,7 @@ module _ (files : List ℕ) (s : Slots) (ds : List TableDesc) (tables : Tables) 
         (spread_y files s b.spread d few claimed n may_n edits then_rows plan) (own files s b.spread d few claimed n may_n edits then_rows plan) plan.within in
         subst (λ ws. AreOnOwn files mine (done ws s) (edits_left new claimed)) (sym claims_are_left) (subst (AreOnOwn files mine (done (claims d.number.0 claimed n) s)) (sym (drafts_same claimed edits)) at)
 
-  pub rows_brought : (all : Bool) (mine : ℕ → Bool) → (all ≡ false → mine (d.number.0 + 1) ≡ true) → (after : Tables) → after ≡ finite.insert tables d.name (record { cols = d.cols; rows = put_all d.cols put (cut_all cut rows) }) → Brings files all mine s new ds after
+  pub rows_brought : (all : Bool) (mine : ℕ → Bool) → (all ≡ false → mine (d.number.0 + 1) ≡ true) → (after : Tables) → after ≡ finite.insert tables d.name (record { cols = d.cols; rows = put_all d.cols put (cut_all cut rows) }) → Brings files all mine s new (λ claimed. ds) after
   rows_brought all mine its after is = record {
     go = goes;
     given = λ e. given_all mine d.number.0 n (few, its e);
@@ -123,5 +123,5 @@ module _ (files : List ℕ) (s : Slots) (ds : List TableDesc) (tables : Tables) 
   }
 
 -- what claims and edits nothing
-pub nothing_brought : (files : List ℕ) (all : Bool) (mine : ℕ → Bool) (s : Slots) (ds : List TableDesc) (tables : Tables) (c : Course) → IsBase files (sheets s) ds tables → Brings files all mine s (record c { owners = []; taken = []; edits = [] }) ds tables
+pub nothing_brought : (files : List ℕ) (all : Bool) (mine : ℕ → Bool) (s : Slots) (ds : List TableDesc) (tables : Tables) (c : Course) → IsBase files (sheets s) ds tables → Brings files all mine s (record c { owners = []; taken = []; edits = [] }) (λ claimed. ds) tables
 nothing_brought files all mine s ds tables c b = record { go = λ claimed may. tt; given = λ e. tt; own = λ e claimed may. tt; spread = λ e claimed may. b.spread; base = λ claimed may. b }

@@ -30,11 +30,12 @@ SpreadAll files s (w ∷ ws) = AreSpread files (sheets s) × SpreadAll files (wr
 abbrev pub IsGiven : (ℕ → Bool) → ℕ → Type 0
 IsGiven mine number = (number + 1 < 4294967295) × (mine (number + 1) ≡ true)
 
--- With any pages that may be claimed: what comes goes in turn, and leads to these tables. For who hasn't `all` tables the
--- claims are for tables of one's own, and the edits on their pages; for who has, the allocation pages stay such.
-pub record Brings (files : List ℕ) (all : Bool) (mine : ℕ → Bool) (s : Slots) (c : Course) (after : List TableDesc) (tables : Tables) : Type 0 where
+-- With any pages that may be claimed: what comes goes in turn, and leads to these tables, whose descriptions tell claimed
+-- roots. For who hasn't `all` tables the claims are for tables of one's own, and the edits on their pages; for who has, the
+-- allocation pages stay such.
+pub record Brings (files : List ℕ) (all : Bool) (mine : ℕ → Bool) (s : Slots) (c : Course) (after : (ℕ → PageId) → List TableDesc) (tables : Tables) : Type 0 where
   pub go : (claimed : ℕ → PageId) → Claimable files s c.taken (length c.owners) claimed → MayWriteAll files s (coming c claimed)
   pub given : all ≡ false → AllByRecursion (IsGiven mine) (drop (length c.taken) c.owners)
   pub own : all ≡ false → (claimed : ℕ → PageId) → Claimable files s c.taken (length c.owners) claimed → AreOnOwn files mine (done (claims_left c claimed) s) (edits_left c claimed)
   pub spread : all ≡ true → (claimed : ℕ → PageId) → Claimable files s c.taken (length c.owners) claimed → SpreadAll files s (coming c claimed)
-  pub base : (claimed : ℕ → PageId) → Claimable files s c.taken (length c.owners) claimed → IsBase files (sheets (done (coming c claimed) s)) after tables
+  pub base : (claimed : ℕ → PageId) → Claimable files s c.taken (length c.owners) claimed → IsBase files (sheets (done (coming c claimed) s)) (after claimed) tables

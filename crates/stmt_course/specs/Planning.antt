@@ -37,9 +37,9 @@ pub record MayPlan (all : Bool) (mine : ℕ → Bool) (stmt : Stmt) (desc : Opti
 pub record IsPlannedOver (files : List ℕ) (all : Bool) (mine : ℕ → Bool) (s : Slots) (ds : List TableDesc) (tables : Tables) (c : Course) : Type 0 where
   pub shaped : shape c.stmt tables ≡ None
   pub reply : c.reply ≡ Some (change_and_reply c.stmt tables).1
-  pub after : List TableDesc
+  pub after : (ℕ → PageId) → List TableDesc
   pub brings : Brings files all mine s c after (apply (change_and_reply c.stmt tables).0 tables)
-  pub same : all ≡ false → after ≡ ds
+  pub same : all ≡ false → (claimed : ℕ → PageId) → after claimed ≡ ds
 
 -- so it is over each database that it has read, for who may carry it out
 abbrev pub PlansOver : Course → Course → Type 0

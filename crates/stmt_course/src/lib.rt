@@ -3,4 +3,6 @@
 
 mod law;
 
-pub use law::{a_plan_brings_its_rows, effects_are_cuts_and_puts, nothing_comes};
+pub use law::{
+    a_plan_brings_its_rows, a_table_comes, a_table_goes, effects_are_cuts_and_puts, nothing_comes,
+};

@@ -108,12 +108,12 @@ module _ (h : Headed) (sound : is_sound h.stmt ≡ true) (of_rows : is_of_rows h
           record {
             shaped = found.shaped;
             reply = ap Some (sym (ap (λ x. (data_over h.stmt x).1) in_tables ∙ ap (λ y. y.1) meant));
-            after = ds;
+            after = λ claimed. ds;
             brings = rows_brought files s ds tables over.base d its.0 rows its.1.pages own.seen over.own effect.cuts effect.puts p.n q.edits.items p.plan old (stage_for (replicate p.n d.number.0) [] (map Plain q.edits.items)) (Some effect.reply)
                 all mine (λ e. may.own e d refl) (apply (change_and_reply h.stmt tables).0 tables)
                 (ap (λ x. apply (data_over h.stmt x).0 tables) in_tables ∙ effect_applied h.stmt effect tables t of_rows get meant
                 ∙ ap (λ name. finite.insert tables name (record { cols = d.cols; rows = put_all d.cols effect.puts (cut_all effect.cuts rows) })) (sym its.2));
-            same = λ e. refl;
+            same = λ e claimed. refl;
           };
     })
       where
