@@ -1,10 +1,12 @@
 -- A count of pages falls by one where one page less passes.
-use Rattle.std.proofs.Common.{◌≡◌, ◌≢◌, inl, inr, ℕ, zero, suc, ◌+◌, ◌-◌, ◌<◌, ◌≤◌, Bool, true, false, cond, List, [], ◌∷◌, get_or, refl, ap, sym, subst, arith}
-use Rattle.std.proofs.lemmas.Bool.{cases_eq}
-use Rattle.std.proofs.lemmas.Bool.{leb-true}
+use Rattle.std.proofs.Common.{◌≡◌, ◌≢◌, inl, inr, ℕ, zero, suc, ◌+◌, ◌-◌, ◌<◌, ◌≤◌, Bool, true, false, cond, List, [], ◌∷◌, length, get_or, refl, ap, sym, subst, ◌∙◌, arith}
+use Rattle.std.specs.Prelude.{◌==◌}
+use Rattle.std.specs.List.{AllByRecursion}
+use Rattle.std.proofs.lemmas.Bool.{cases_Bool, cases_eq, and_parts, eqb-true, eq-eqb, leb-true}
 use Rattle.page_base.specs.declared.numbers.PageId.{PageId}
+use Rattle.page_base.specs.Pages.{is_page}
 use Rattle.page_tables.specs.Owners.{is_there}
-use Rattle.step_trail.specs.Counting.{pages_in, pages_from, count_pages}
+use Rattle.step_trail.specs.Counting.{AreApart, all_pages, is_in, pages_in, pages_from, count_pages}
 
 abbrev one : Bool → ℕ
 one b = cond b 1 0
@@ -88,3 +90,42 @@ module _ (t u : PageId → Bool) where
     pub count_fewer : (files : List ℕ) → count_pages files u ≤ count_pages files t
     unfolding count_pages
     count_fewer files = from_fewer 0 files
+
+-- no page passes a test that none does
+in_none : (file n : ℕ) → pages_in (λ (q : PageId). false) file n ≡ 0
+in_none file zero = refl
+in_none file (suc n) = (let less = in_none file n in omega (arith, less))
+
+from_none : (file : ℕ) (files : List ℕ) → pages_from (λ (q : PageId). false) file files ≡ 0
+from_none file [] = refl
+from_none file (n ∷ ns) = (let here = in_none file n in let later = from_none (file + 1) ns in omega (arith, here, later))
+
+count_none : (files : List ℕ) → count_pages files (λ (q : PageId). false) ≡ 0
+unfolding count_pages
+count_none files = from_none 0 files
+
+-- a page is itself, and no other one
+page_itself : (p : PageId) → is_page p p ≡ true
+page_itself p = rw (eq-eqb p.file p.file refl, eq-eqb p.page p.page refl) refl
+
+page_other : (p q : PageId) → q ≢ p → is_page p q ≡ false
+page_other p q ne = elim (cases_Bool (is_page p q)) [
+  | inl is ↦ absurd (ne (let both = and_parts (p.file == q.file) (p.page == q.page) is in let file : p.file ≡ q.file = eqb-true p.file q.file both.0 in let page : p.page ≡ q.page = eqb-true p.page q.page both.1 in ap (λ (n : ℕ). record { file = n; page = q.page }) (sym file) ∙ ap (λ (n : ℕ). record { file = p.file; page = n }) (sym page)))
+  | inr not ↦ not
+]
+
+count_in : (files : List ℕ) (ps : List PageId) → AreApart ps → AllByRecursion (λ (p : PageId). is_there files p ≡ true) ps → count_pages files (is_in ps) ≡ length ps
+count_in files [] apart there = count_none files
+count_in files (p ∷ ps) apart there =
+    let later : count_pages files (is_in ps) ≡ length ps = count_in files ps apart.1 there.1 in
+    let more : count_pages files (is_in (p ∷ ps)) ≡ count_pages files (is_in ps) + 1 = count_falls (is_in (p ∷ ps)) (is_in ps) p (rw (page_itself p) refl) apart.0 (λ q ne. rw (page_other p q ne) refl) files there.0 in
+    omega (arith, later, more)
+
+pub apart_counted : (files : List ℕ) (ps : List PageId) → AreApart ps → AllByRecursion (λ (p : PageId). is_there files p ≡ true) ps → length ps ≤ all_pages files
+apart_counted files ps apart there =
+    let same = count_in files ps apart there in
+    let less : count_pages files (is_in ps) ≤ all_pages files = count_fewer (λ (q : PageId). true) (is_in ps) (λ q is. refl) files in
+    omega (arith, same, less)
+
+pub apart_fewer : (files : List ℕ) (ps : List PageId) (q : PageId) → AreApart ps → AllByRecursion (λ (p : PageId). is_there files p ≡ true) ps → is_there files q ≡ true → is_in ps q ≡ false → length ps < all_pages files
+apart_fewer files ps q apart there here out = (let more = apart_counted files (q ∷ ps) (out, apart) (here, there) in omega (arith, more))

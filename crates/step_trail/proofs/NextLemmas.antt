@@ -1,8 +1,12 @@
 -- Which session has no next step, and which one's next step takes a latch.
-use Rattle.std.proofs.Common.{◌≡◌, ◌≢◌, ◌⊎◌, inl, inr, ◌↔◌, ℕ, zero, suc, Bool, true, false, refl, ap, ◌∙◌, arith}
-use Rattle.std.specs.Prelude.{Option, Some, None, is_some}
-use Rattle.std.proofs.lemmas.Bool.{cases_Bool}
+use Rattle.std.proofs.Common.{◌≡◌, ◌≢◌, ◌⊎◌, inl, inr, ◌↔◌, ℕ, zero, suc, Bool, true, false, List, [], length, get_or, refl, ap, sym, ◌∙◌, arith}
+use Rattle.std.specs.Prelude.{◌==◌, Option, Some, None, is_some}
+use Rattle.std.proofs.lemmas.Bool.{cases_Bool, cases_lt, eqb-true, eq-eqb}
+use Rattle.std.proofs.lemmas.List.{get_or_default, get_or_past}
+use Rattle.std.proofs.lemmas.List.Folds.{Any-from_list_any, list_any-from_Any}
 use Rattle.page_base.specs.declared.numbers.PageId.{PageId}
+use Rattle.alloc_pages.specs.Owners.{owner_at, owner_in}
+use Rattle.alloc_pages.proofs.OwnerLemmas.{owner_in-empty}
 use Rattle.page_fmt.specs.Content.{content}
 use Rattle.latch_book.specs.Latches.{latch_of}
 use Rattle.plain_model.specs.declared.kind.Kind.{Kind}
@@ -117,3 +121,15 @@ none_held e safe waits k is = (safe.sessions k is).seated.latched ∙ ap latch_a
     holds_none : (kind_of e k ≡ None) ⊎ (kind_of e k ≡ Some step.Latch) → (seat e k).hold ≡ Free
     holds_none (inl none) = gone_free (seat e k).sitting.point (seat e k).sitting.found (seat e k).hold ((none_is_gone e k is).0 none) (safe.sessions k is).seated.posed.grip
     holds_none (inr latch) = latch_holds_none e k safe is latch
+
+-- a free slot is one whose owner is 0
+pub free_there : (slots : List (List ℕ)) → has_free slots ≡ true → (i : ℕ) × (owner_at slots i ≡ 0)
+free_there slots e =
+    let a = Any-from_list_any (λ (bytes : List ℕ). owner_in bytes == 0) slots e in
+    (a.0, ap owner_in (get_or_default slots a.0 [] a.1 a.2 ∙ a.3) ∙ eqb-true (owner_in a.1) 0 a.4)
+
+pub there_free : (slots : List (List ℕ)) → (i : ℕ) × (owner_at slots i ≡ 0) → has_free slots ≡ true
+there_free slots a = elim (cases_lt a.0 (length slots)) [
+  | inl lt ↦ list_any-from_Any (λ (bytes : List ℕ). owner_in bytes == 0) slots (a.0, get_or slots a.0 [], lt, get_or_default slots a.0 (get_or slots a.0 []) [] lt, eq-eqb (owner_in (get_or slots a.0 [])) 0 a.1)
+  | inr ge ↦ absurd (let past = ap owner_in (get_or_past slots a.0 [] ge) in let none = owner_in-empty in let zero_is : 0 ≡ 4294967295 = sym a.1 ∙ past ∙ none in omega (arith, zero_is))
+]

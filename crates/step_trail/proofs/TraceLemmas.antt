@@ -24,7 +24,7 @@ use Rattle.step_trail.specs.Entries.{Did, Entry, Step, End, Sizes, Phase, Betwee
 use Rattle.step_trail.specs.Next.{kind_at, kind_of}
 use Rattle.step_trail.specs.Walked.{IsCaused, IsCausedBy, IsEntered, IsExplained, IsStep, Walked, ends_well, fits_phase, has_cut, is_cut, may_come}
 use Rattle.step_trail.specs.Reached.{IsReached, LeavesHeld, StaysFree, StaysLacking, is_start, stands_in}
-use Rattle.step_trail.specs.Traced.{AreFresh, Flushes, IsSaid, IsSaidBy, IsTraced, Traced, Traces}
+use Rattle.step_trail.specs.Traced.{AreFresh, Flushes, IsSaid, IsSaidBy, IsTraced, Traced, Traces, sizes_of}
 use Rattle.step_trail.proofs.EachLemmas.{walked_more}
 use Rattle.step_trail.proofs.MoveLemmas.{kind_more, left_more, phase_more, present_more, walked_end}
 use Rattle.step_trail.proofs.NextLemmas.{gone_has_none, of_some, stays_has}
@@ -74,6 +74,9 @@ explained_right z xs ys n is = record {
   full = λ e. any_right (λ (d : Did). is_kind step.Pass d.kind) xs ys (is.full e);
   frames = is.frames;
 }
+
+sessions_are : (z : Sizes) (e : State) → z ≡ sizes_of e → z.sessions ≡ length e.seats
+sessions_are z e same = ap (λ (y : Sizes). y.sessions) same
 
 -- what an entry tells of its own session, and of others
 module _ (k : ℕ) (d : Did) where
@@ -175,7 +178,7 @@ module _ (z : Sizes) (e s : State) (k : ℕ) (d : Did) (entries : List Entry) (t
 
   step_may_come : IsStep z entries d
   step_may_come = record {
-    known = (let who = d_is.who in let last = d_is.is.last in let many = t.sessions in omega (arith, who, last, many));
+    known = (let who = d_is.who in let last = d_is.is.last in let many = sessions_are z e t.sized in omega (arith, who, last, many));
     kind = subst (λ (n : ℕ). may_come entries n d.kind ≡ true) (sym d_is.who) (comes k positive d.kind own.reached d_is.kind);
     busy = λ vain. (d_is.vain vain).0;
     entered = d_is.entered;
@@ -234,11 +237,11 @@ module _ (z : Sizes) (e s : State) (k : ℕ) (d : Did) (entries : List Entry) (t
 
   pub traced_more : Traced z s (entries ++ Step d ∷ [])
   traced_more = record {
-    sessions = t.sessions ∙ sym d_is.many;
+    sized = t.sized ∙ sym d_is.sized;
     walked = subst (λ (b : List Event). Walked z (entries ++ Step d ∷ []) b) (sym d_is.events) (walked_more z entries (Step d) e.events t.walked step_may_come);
     each = λ j is. elim (cases_eq j k) [
       | inl here ↦ subst (λ (n : ℕ). IsTraced z s (entries ++ Step d ∷ []) n) (sym here) (record { left = own_left; reached = own_reached; met = own_met })
-      | inr ne ↦ other_traced j (record { first = is.first; last = (let last = is.last in let many = d_is.many in omega (arith, last, many)) }) ne
+      | inr ne ↦ other_traced j (record { first = is.first; last = (let last = is.last in let many = ap (λ (y : Sizes). y.sessions) d_is.sized in omega (arith, last, many)) }) ne
     ];
   }
 
@@ -280,7 +283,7 @@ module _ (z : Sizes) (e s : State) (d : Did) (entries : List Entry) (t : Traced 
 
   pub traced_flush : Traced z s (entries ++ Step d ∷ [])
   traced_flush = record {
-    sessions = t.sessions ∙ sym many_still;
+    sized = t.sized ∙ sym f.sized;
     walked = subst (λ (b : List Event). Walked z (entries ++ Step d ∷ []) b) (sym f.events)
         (subst (λ (b : List Event). Walked z (entries ++ Step d ∷ []) b) (ap (λ (es : List Event). e.events ++ es) f.quiet ∙ append-nil e.events) (walked_more z entries (Step d) e.events t.walked flush_may_come));
     each = λ j is. still_traced j (record { first = is.first; last = (let last = is.last in let many = many_still in omega (arith, last, many)) });
@@ -296,7 +299,7 @@ all_gone f a (x ∷ xs) same =
 
 module _ (z : Sizes) (e : State) (entries : List Entry) (t : Traced z e entries) where
   gone_all : list_all (λ (k : ℕ). has_left k entries) (range_with_len 1 z.sessions) ≡ list_all (λ (x : Seated). is_gone x.sitting.point) e.seats
-  gone_all = ap (λ (n : ℕ). list_all (λ (k : ℕ). has_left k entries) (range_with_len 1 n)) t.sessions
+  gone_all = ap (λ (n : ℕ). list_all (λ (k : ℕ). has_left k entries) (range_with_len 1 n)) (sessions_are z e t.sized)
       ∙ all_gone (λ (k : ℕ). has_left k entries) 1 e.seats (λ i lt. (let at : 1 + i ≡ suc i = omega arith in subst (λ (n : ℕ). has_left n entries ≡ is_gone (get_or e.seats i no_seat).sitting.point) (sym at) (t.each (suc i) (record { first = omega arith; last = omega (arith, lt) })).left))
 
   end_left : (who : ℕ) → who ≤ length e.seats → is_some (kind_of e who) ≡ not (is_over z.sessions who entries)
@@ -329,8 +332,8 @@ module _ (z : Sizes) (e : State) (entries : List Entry) (t : Traced z e entries)
 
   pub traced_end : (who : ℕ) → who ≤ length e.seats → Traced z e (entries ++ End who (kind_of e who) ∷ [])
   traced_end who le = record {
-    sessions = t.sessions;
-    walked = walked_end z entries who (kind_of e who) e.events t.walked (record { known = (let many = t.sessions in omega (arith, many, le)); left = end_left who le; kind = end_kind who le });
+    sized = t.sized;
+    walked = walked_end z entries who (kind_of e who) e.events t.walked (record { known = (let many = sessions_are z e t.sized in omega (arith, many, le)); left = end_left who le; kind = end_kind who le });
     each = λ k is. (let old = t.each k is in record {
       left = left_more k entries (End who (kind_of e who)) ∙ or_false (has_left k entries) ∙ old.left;
       reached = subst (λ (last : Option Kind). IsReached e.pages last (phase_of k (entries ++ End who (kind_of e who) ∷ [])) (seat e k)) (sym (kind_more k entries (End who (kind_of e who))))
@@ -340,9 +343,9 @@ module _ (z : Sizes) (e : State) (entries : List Entry) (t : Traced z e entries)
   }
 
 -- and before the first step there is no entry
-pub traced_none : (z : Sizes) (e : State) → z.sessions ≡ length e.seats → AreFresh e → Traced z e []
-traced_none z e many fresh = record {
-  sessions = many;
+pub traced_none : (e : State) → AreFresh e → Traced (sizes_of e) e []
+traced_none e fresh = record {
+  sized = refl;
   walked = record { joined = sym fresh.events; each = tt };
   each = λ k is. record {
     left = sym (ap is_gone (fresh.starts k is));

@@ -1,6 +1,8 @@
 -- How many pages of some files pass a test.
-use Rattle.std.specs.Prelude.{ℕ, zero, suc, ◌+◌, ◌/◌, Bool, true, not, nat_lt, if◌then◌else◌, List, [], ◌∷◌, length, sum_by}
+use Rattle.std.specs.Prelude.{ℕ, zero, suc, ◌≡◌, ◌+◌, ◌/◌, Bool, true, false, not, nat_lt, if◌then◌else◌, List, [], ◌∷◌, length, sum_by}
+use Rattle.std.specs.List.{list_any}
 use Rattle.page_base.specs.declared.numbers.PageId.{PageId}
+use Rattle.page_base.specs.Pages.{is_page}
 use Rattle.page_fmt.specs.Seen.{Looked, place_of}
 
 -- of the first pages of one file, so many
@@ -27,3 +29,11 @@ alloc_pages files = sum_by (λ n. (n + 1279) / 1280) files
 -- how many weren't read
 abbrev pub unread : List ℕ → List Looked → ℕ
 unread files seen = count_pages files (λ p. not (nat_lt (place_of seen p) (length seen)))
+
+-- whether a page is one of a list, and that none stands there twice
+abbrev pub is_in : List PageId → PageId → Bool
+is_in ps q = list_any (λ (p : PageId). is_page p q) ps
+
+abbrev pub AreApart : List PageId → Type 0
+AreApart [] = Unit {0}
+AreApart (p ∷ ps) = (is_in ps p ≡ false) × AreApart ps

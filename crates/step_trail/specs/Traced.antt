@@ -7,14 +7,20 @@ use Rattle.plain_model.specs.declared.kind.Kind.TheVariants as step
 use Rattle.plain_model.specs.declared.reply.Message.{Message}
 use Rattle.plain_model.specs.declared.reply.Reply.{Reply}
 use Rattle.plain_model.specs.declared.reply.Reply.TheVariants.{Msg}
+use Rattle.snap_pages.specs.Shown.{counts}
 use Rattle.step_words.specs.declared.point.Point.TheVariants.{Start}
 use Rattle.step_words.specs.Sittings.{stmt_at}
 use Rattle.step_state.specs.Own.{is_gone}
 use Rattle.step_state.specs.State.{State, IsSession, seat}
+use Rattle.step_trail.specs.Counting.{all_pages}
 use Rattle.step_trail.specs.Entries.{Did, Entry, Sizes, Phase, has_left, is_leaving, last_kind, next_phase, phase_of, present, says}
 use Rattle.step_trail.specs.Next.{kind_of}
 use Rattle.step_trail.specs.Reached.{IsReached, LeavesHeld, stands_in}
 use Rattle.step_trail.specs.Walked.{IsEntered, IsExplained, Walked, ends_well}
+
+-- the sizes of an engine's run, which no step changes
+abbrev pub sizes_of : State → Sizes
+sizes_of e = record { sessions = length e.seats; pages = all_pages (counts e.pages); frames = e.pages.pool.frames }
 
 pub record IsTraced (z : Sizes) (e : State) (entries : List Entry) (k : ℕ) : Type 0 where
   pub left : has_left k entries ≡ is_gone (seat e k).sitting.point
@@ -24,7 +30,7 @@ pub record IsTraced (z : Sizes) (e : State) (entries : List Entry) (k : ℕ) : T
 
 -- the trail is one of this engine's history, and tells of each session where it stands
 pub record Traced (z : Sizes) (e : State) (entries : List Entry) : Type 0 where
-  pub sessions : z.sessions ≡ length e.seats
+  pub sized : z ≡ sizes_of e
   pub walked : Walked z entries e.events
   pub each : (k : ℕ) → IsSession e k → IsTraced z e entries k
 
@@ -45,7 +51,7 @@ pub record Traces (z : Sizes) (e s : State) (k : ℕ) (d : Did) : Type 0 where
   pub entered : AllByRecursion (IsEntered d) d.events
   pub last : ends_well d.events ≡ true
   pub events : s.events ≡ e.events ++ d.events
-  pub many : length s.seats ≡ length e.seats
+  pub sized : sizes_of s ≡ sizes_of e
   -- where it found its page latched nothing changed
   pub vain : d.went ≡ false → (d.kind ≡ step.Latch) × (s.seats ≡ e.seats) × (s.pages ≡ e.pages)
   -- others stand as they stood, and what they hold is as it was
@@ -65,6 +71,7 @@ pub record Flushes (e s : State) (d : Did) : Type 0 where
   pub went : d.went ≡ true
   pub quiet : d.events ≡ []
   pub events : s.events ≡ e.events
+  pub sized : sizes_of s ≡ sizes_of e
   pub seats : s.seats ≡ e.seats
   pub held : (j : ℕ) → LeavesHeld e.pages s.pages (seat e j)
 

@@ -1,7 +1,8 @@
 //! What holds of trails and of what is left to do, as functions whose contracts say it.
 
 ghost use Rattle.std.specs.Prelude.{◌≡◌, ◌≢◌, ◌⊎◌, ◌↔◌, ℕ, ◌+◌, ◌*◌, ◌<◌, ◌≤◌, Bool, true, false, ◌||◌, List, [], ◌∷◌, ◌++◌, length, map, Option, Some, None};
-ghost use Rattle.std.specs.List.{Any, list_any};
+ghost use Rattle.std.specs.List.{AllByRecursion, Any, list_any};
+ghost use Rattle.alloc_pages.specs.Owners.{owner_at};
 ghost use Rattle.page_base.specs.declared.numbers.PageId.{PageId};
 ghost use Rattle.page_base.specs.declared.numbers.SessNo.{SessNo};
 ghost use Rattle.latch_book.specs.Latches.{latch_of};
@@ -19,19 +20,30 @@ ghost use Rattle.step_words.specs.Seats.{Seated, Free, with_seat};
 ghost use Rattle.step_state.specs.Own.{is_gone};
 ghost use Rattle.step_state.specs.Safe.{Safe};
 ghost use Rattle.step_state.specs.State.{State, IsSession, seat, sess};
-ghost use Rattle.step_trail.specs.Counting.{count_pages};
+ghost use Rattle.step_trail.specs.Counting.{AreApart, all_pages, count_pages, is_in};
 ghost use Rattle.step_trail.specs.Entries.{Did, Entry, Step, End, Sizes, Amid, book_of, events_in, has_left, is_leaving, kind_after, last_kind, phase_after, phase_of, present, present_after, says, staying, Phase};
 ghost use Rattle.step_trail.specs.Example.{small, reading, unlatched, unended, unfailed};
 ghost use Rattle.step_trail.specs.Finished.{AreTried, IsRound, AreRounds, entries_in, Finished};
 ghost use Rattle.step_trail.specs.Kinds.{is_kind, follows, follows_last};
 ghost use Rattle.step_trail.specs.Left.{Left, IsBelow, Lowers, left_said, left_planned};
-ghost use Rattle.step_trail.specs.Next.{kind_at, kind_of};
+ghost use Rattle.step_trail.specs.Next.{has_free, kind_at, kind_of};
 ghost use Rattle.step_trail.specs.Reached.{IsReached};
 ghost use Rattle.step_trail.specs.Rose.{Counts, IsRisen, has_risen, names_snap, risen};
 ghost use Rattle.step_trail.specs.Scheduled.{IsAmid, IsBetween, IsLast, IsOver, Scheduled, Takes, entries_of};
 ghost use Rattle.step_trail.specs.Togo.{sound, togo, unmapped};
-ghost use Rattle.step_trail.specs.Traced.{AreFresh, Flushes, Traced, Traces};
+ghost use Rattle.step_trail.specs.Traced.{AreFresh, Flushes, Traced, Traces, sizes_of};
 ghost use Rattle.step_trail.specs.Walked.{IsEnd, IsEntry, IsExplained, IsStep, Walked, fits_phase};
+
+/// Pages that are there, none of them twice, are no more than there are pages; and fewer where another one is there.
+pub fn pages_apart_are_counted()
+    ensures all { (files : List ℕ) (ps : List PageId) → AreApart ps → AllByRecursion (λ (p : PageId). is_there files p ≡ true) ps → length ps ≤ all_pages files }
+    ensures fewer { (files : List ℕ) (ps : List PageId) (q : PageId) → AreApart ps → AllByRecursion (λ (p : PageId). is_there files p ≡ true) ps → is_there files q ≡ true → is_in ps q ≡ false → length ps < all_pages files }
+{}
+
+/// An allocation page has a free slot exactly where some slot of it has the owner 0.
+pub fn a_page_with_a_free_slot_has_one()
+    ensures { (slots : List (List ℕ)) → has_free slots ≡ true ↔ (i : ℕ) × (owner_at slots i ≡ 0) }
+{}
 
 /// What a step names by its counts are the objects whose count rose in it.
 pub fn what_rose_is_named()
@@ -144,7 +156,7 @@ pub fn the_next_step_may_come()
 /// The trail of an engine keeps up with it: before the first step it has no entry, it takes in a step, one of the flusher, and the
 /// end of a pick.
 pub fn a_trail_keeps_up_with_its_engine()
-    ensures none { (z : Sizes) (e : State) → z.sessions ≡ length e.seats → AreFresh e → Traced z e [] }
+    ensures none { (e : State) → AreFresh e → Traced (sizes_of e) e [] }
     ensures step { (z : Sizes) (e s : State) (k : ℕ) (d : Did) (entries : List Entry) → Traced z e entries → Traces z e s k d → Traced z s (entries ++ Step d ∷ []) }
     ensures flush { (z : Sizes) (e s : State) (d : Did) (entries : List Entry) → Traced z e entries → Flushes e s d → Traced z s (entries ++ Step d ∷ []) }
     ensures end { (z : Sizes) (e : State) (entries : List Entry) (who : ℕ) → Traced z e entries → who ≤ length e.seats → Traced z e (entries ++ End who (kind_of e who) ∷ []) }
