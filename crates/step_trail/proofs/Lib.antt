@@ -1,0 +1,14 @@
+pub mod EachLemmas
+pub mod ScheduleLemmas
+pub mod RoundLemmas
+pub mod LeftLemmas
+pub mod KindLemmas
+pub mod NextLemmas
+pub mod ExampleLemmas
+pub mod RoseLemmas
+pub mod CountingLemmas
+pub mod MoveLemmas
+pub mod LowerLemmas
+pub mod AnswerLemmas
+pub mod ReachLemmas
+pub mod TraceLemmas

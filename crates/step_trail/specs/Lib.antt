@@ -1,0 +1,13 @@
+pub mod Rose
+pub mod Kinds
+pub mod Entries
+pub mod Walked
+pub mod Scheduled
+pub mod Finished
+pub mod Counting
+pub mod Togo
+pub mod Left
+pub mod Next
+pub mod Example
+pub mod Reached
+pub mod Traced
