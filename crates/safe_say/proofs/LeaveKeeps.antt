@@ -1,40 +1,29 @@
 -- A session that ends leaves to others what it owes them, and shows the rest.
-use Rattle.std.proofs.Common.{◌≡◌, ◌≢◌, ℕ, ◌+◌, ◌-◌, ◌==◌, ◌<◌, ◌≤◌, Bool, true, false, cond, List, [], ◌∷◌, ◌++◌, length, map, drop, refl, ap, sym, subst, ◌∙◌, inl, inr, arith, eqb-true}
-use Rattle.std.specs.Prelude.{◌⊎◌, Option, Some, None, IsTrue, nat_le}
+use Rattle.std.proofs.Common.{◌≡◌, ℕ, ◌+◌, ◌-◌, ◌==◌, ◌<◌, ◌≤◌, true, cond, List, [], length, map, refl, ap, sym, subst, ◌∙◌, inl, inr, arith, eqb-true}
+use Rattle.std.specs.Prelude.{Option, Some, None, IsTrue, nat_le}
 use Rattle.std.proofs.lemmas.Bool.{cases_Bool, and_parts, leb-true}
 use Rattle.std.proofs.lemmas.List.{get_or-set_same}
 use Rattle.page_base.specs.declared.numbers.Mode.{Mode}
-use Rattle.page_base.specs.declared.numbers.PageId.{PageId}
 use Rattle.page_base.specs.declared.numbers.SessNo.{SessNo}
 use Rattle.page_base.specs.Slots.{Slots}
 use Rattle.latch_book.specs.Latches.{Latches, latch_of, IsLatchBook}
-use Rattle.lock_book.specs.Locks.{Locks, lock_of, IsLockBook}
+use Rattle.lock_book.specs.Locks.{lock_of, IsLockBook}
 use Rattle.lock_book.proofs.LockLemmas.{lock_of-without_locks, lock_of-without_locks_same, IsLockBook-without_locks}
 use Rattle.plain_model.specs.declared.event.Event.TheVariants.{Left}
-use Rattle.plain_model.specs.declared.event.LockName.{LockName}
 use Rattle.plain_model.specs.Legal.{after, Legal}
 use Rattle.plain_model.specs.State.{Plain, Session, is_session, session, fresh_session, master, committed, copy}
-use Rattle.plain_model.specs.Tables.{Tables}
-use Rattle.plain_steps.specs.Modes.{mode_in}
 use Rattle.plain_steps.proofs.AfterLemmas.{others_are}
-use Rattle.rec_log.specs.Records.{Record}
-use Rattle.rec_log.specs.Undone.{undone}
-use Rattle.snap_cat.specs.Catalog.{Catalog}
 use Rattle.snap_pages.specs.Cuts.{marked_by, sparse_by}
 use Rattle.snap_pages.specs.Owed.{count_on}
 use Rattle.snap_pages.specs.Shown.{Shown, catalog, counts, pins}
 use Rattle.sys_cat.specs.declared.desc.TableDesc.{TableDesc}
 use Rattle.page_tables.specs.Bases.{IsBase}
 use Rattle.page_tables.specs.Sheets.{sheets}
-use Rattle.open_work.specs.Open.{Parts, with_part, all, settled, alone, before}
-use Rattle.step_words.specs.declared.point.Point.TheVariants.{Leave, Gone}
-use Rattle.step_words.specs.Courses.{Course}
-use Rattle.step_words.specs.Sittings.{stmt_at}
-use Rattle.step_words.specs.Seats.{Seated, Grip, Free}
-use Rattle.step_state.specs.State.{State, IsSession, sess, seat, works, many, machine, slots_at, settled_of, alone_of}
-use Rattle.step_state.specs.Holding.{lock_at}
-use Rattle.step_state.specs.Posed.{FitsGrip, lacks_course, lacks_work, is_making, IsPosed}
-use Rattle.step_state.specs.Own.{IsSeated, IsInStep, IsAside, IsSafeSession, is_between, is_gone}
+use Rattle.open_work.specs.Open.{Parts, with_part, settled, before}
+use Rattle.step_words.specs.Seats.{Seated, Free}
+use Rattle.step_state.specs.State.{State, sess, seat, works, many, machine, slots_at, alone_of}
+use Rattle.step_state.specs.Posed.{FitsGrip, lacks_work, is_making, IsPosed}
+use Rattle.step_state.specs.Own.{IsSeated, IsInStep, IsAside, IsSafeSession, is_between}
 use Rattle.step_state.specs.Snapshots.{IsBeside}
 use Rattle.step_state.specs.Whole.{grip_pin, gathered_on, seat_pins, snap_told}
 use Rattle.step_state.specs.Told.{IsToldSource, IsToldReading}

@@ -1,15 +1,14 @@
 -- What an answer leaves of a session: where it stands then, and which locks it keeps.
-use Rattle.std.specs.Prelude.{ℕ, ◌≡◌, ◌+◌, ◌-◌, ◌==◌, ◌&&◌, ◌||◌, not, if◌then◌else◌, Bool, true, false, List, [], ◌∷◌, ◌++◌, filter, find, length, Option, Some, None, option_map}
+use Rattle.std.specs.Prelude.{ℕ, ◌≡◌, ◌+◌, ◌-◌, ◌==◌, ◌&&◌, ◌||◌, not, if◌then◌else◌, Bool, List, [], ◌∷◌, ◌++◌, filter, find, length, Option, Some, None, option_map}
 use Rattle.std.specs.List.{list_any}
 use Rattle.std.specs.Str.{bytes_eq}
-use Rattle.page_base.specs.declared.numbers.Mode.{Mode}
 use Rattle.page_base.specs.declared.numbers.SessNo.{SessNo}
 use Rattle.page_base.specs.declared.numbers.TableNo.{TableNo}
 use Rattle.lock_book.specs.Locks.{Locks, without_locks}
 use Rattle.lock_book.specs.declared.lock.Lock.{Lock}
 use Rattle.plain_model.specs.declared.event.Event.TheVariants.{Said}
 use Rattle.plain_model.specs.declared.reply.Reply.{Reply}
-use Rattle.plain_model.specs.declared.reply.Reply.TheVariants.{Ok, Count, Rows, Msg}
+use Rattle.plain_model.specs.declared.reply.Reply.TheVariants.{Ok, Msg}
 use Rattle.plain_model.specs.declared.reply.TheConstants.Message.{NO_MEMORY, LOG_FAILED}
 use Rattle.plain_model.specs.declared.stmt.Stmt.{Stmt}
 use Rattle.plain_model.specs.declared.stmt.Stmt.TheVariants.{UseDb, BeginTran, Commit, Rollback, SetLevel}
@@ -21,7 +20,7 @@ use Rattle.snap_cat.specs.Catalog.{Snap, Catalog}
 use Rattle.step_words.specs.declared.point.Point.TheVariants.{Start}
 use Rattle.step_words.specs.Sittings.{Sitting}
 use Rattle.step_words.specs.Seats.{Seated, with_seat}
-use Rattle.step_state.specs.State.{State, IsSession, sess, seat, machine}
+use Rattle.step_state.specs.State.{State, IsSession, sess, machine}
 
 -- LOCKS
 

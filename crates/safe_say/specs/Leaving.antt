@@ -1,5 +1,5 @@
 -- The step with which a session ends: it frees its locks, and is in no database and no transaction.
-use Rattle.std.specs.Prelude.{ℕ, ◌≡◌, List, [], ◌∷◌, ◌++◌, None}
+use Rattle.std.specs.Prelude.{ℕ, ◌≡◌, [], ◌∷◌, ◌++◌, None}
 use Rattle.lock_book.specs.Locks.{without_locks}
 use Rattle.plain_model.specs.declared.event.Event.TheVariants.{Left}
 use Rattle.plain_model.specs.Legal.{MayCome}

@@ -1,6 +1,5 @@
 -- A step that meets a refusal: it gives back what it holds, and says the refusal, unless records have to be taken back first.
-use Rattle.std.specs.Prelude.{ℕ, ◌≡◌, ◌≢◌, ◌<◌, Bool, true, false, IsTrue, List, [], length, Option, Some, None}
-use Rattle.page_base.specs.declared.numbers.PageId.{PageId}
+use Rattle.std.specs.Prelude.{ℕ, ◌≡◌, ◌<◌, IsTrue, length, Some, None}
 use Rattle.latch_book.specs.Latches.{without_latch}
 use Rattle.plain_model.specs.declared.reply.Message.{Message}
 use Rattle.plain_model.specs.declared.reply.Reply.TheVariants.{Msg}
@@ -8,9 +7,9 @@ use Rattle.snap_pages.specs.Shown.{Shown, img}
 use Rattle.snap_pages.specs.Steps.{SameSnaps, SamePlaces}
 use Rattle.snap_pages.specs.Views.{KeepsViews}
 use Rattle.step_words.specs.declared.point.Point.TheVariants.{Undo}
-use Rattle.step_words.specs.Sittings.{Sitting, stmt_at, ends_work}
-use Rattle.step_words.specs.Seats.{Seated, Free, with_seat}
-use Rattle.step_state.specs.State.{State, IsSession, sess, seat}
+use Rattle.step_words.specs.Sittings.{stmt_at, ends_work}
+use Rattle.step_words.specs.Seats.{Seated, Free}
+use Rattle.step_state.specs.State.{State, sess, seat}
 use Rattle.step_state.specs.Moving.{MovesSeat, MovesPins}
 use Rattle.safe_say.specs.Answering.{Answers}
 

@@ -1,5 +1,5 @@
 -- The steps that answer: at once, by what a course has found, or once records were taken back.
-use Rattle.std.specs.Prelude.{ℕ, ◌≡◌, ◌≢◌, ◌⊎◌, true, List, [], Option, Some, None, remove}
+use Rattle.std.specs.Prelude.{ℕ, ◌≡◌, ◌⊎◌, Option, Some, None, remove}
 use Rattle.page_base.specs.declared.numbers.SnapNo.{SnapNo}
 use Rattle.latch_book.specs.Latches.{without_latch}
 use Rattle.buf_pool.specs.Steps.{SameShown}

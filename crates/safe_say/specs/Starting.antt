@@ -1,5 +1,5 @@
 -- The steps that begin a statement which isn't about tables and isn't answered at once, or begin the end of a session.
-use Rattle.std.specs.Prelude.{ℕ, ◌≡◌, ◌+◌, true, List, [], ◌∷◌, ◌++◌, length, Option, Some, None}
+use Rattle.std.specs.Prelude.{ℕ, ◌≡◌, ◌+◌, true, List, [], ◌∷◌, ◌++◌, length, Some, None}
 use Rattle.plain_model.specs.declared.event.Event.TheVariants.{RestoreAt}
 use Rattle.plain_model.specs.declared.stmt.SnapFile.{SnapFile}
 use Rattle.plain_model.specs.declared.stmt.Stmt.{Stmt}

@@ -1,5 +1,5 @@
 -- The step that drops a snapshot: its statement is answered in it.
-use Rattle.std.specs.Prelude.{ℕ, ◌≡◌, ◌≢◌, ◌⊎◌, List, Option, Some, None}
+use Rattle.std.specs.Prelude.{ℕ, ◌≡◌, ◌≢◌, ◌⊎◌, List, Some}
 use Rattle.page_base.specs.declared.numbers.SnapNo.{SnapNo}
 use Rattle.plain_model.specs.declared.reply.Reply.{Reply}
 use Rattle.plain_model.specs.declared.reply.Reply.TheVariants.{Ok, Msg}
@@ -10,7 +10,6 @@ use Rattle.snap_cat.specs.Catalog.{IsNamed}
 use Rattle.snap_pages.specs.Shown.{catalog, cut_of}
 use Rattle.step_words.specs.declared.point.Point.TheVariants.{Start}
 use Rattle.step_words.specs.Sittings.{stmt_at}
-use Rattle.step_words.specs.Seats.{Seated}
 use Rattle.step_state.specs.State.{State, IsSession, seat}
 use Rattle.safe_say.specs.Answering.{Answers}
 use Rattle.safe_say.specs.Saying.{TakesOut}

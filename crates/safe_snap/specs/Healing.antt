@@ -1,5 +1,5 @@
 -- The step that takes one record back from the snapshot in its making.
-use Rattle.std.specs.Prelude.{ℕ, ◌≡◌, ◌≢◌, Bool, true, List, [], ◌∷◌, ◌++◌, Some, None}
+use Rattle.std.specs.Prelude.{ℕ, ◌≡◌, ◌≢◌, true, List, Some, None}
 use Rattle.latch_book.specs.declared.latch.LatchMode.TheVariants.{Ex}
 use Rattle.latch_book.specs.Latches.{without_latch}
 use Rattle.rec_log.specs.Records.{Record}
@@ -7,10 +7,9 @@ use Rattle.page_base.specs.declared.numbers.SnapNo.{SnapNo}
 use Rattle.sparse_set.specs.Sparse.{is_copied}
 use Rattle.snap_cat.specs.declared.snapshot.SnapState.TheVariants.{Suspect}
 use Rattle.snap_pages.specs.Cuts.{place_of}
-use Rattle.snap_pages.specs.Shown.{state_of, set_of, owes_of}
+use Rattle.snap_pages.specs.Shown.{state_of, set_of}
 use Rattle.undo_pass.specs.Heals.{IsHealed}
-use Rattle.step_words.specs.declared.point.Point.{Point}
-use Rattle.step_words.specs.declared.point.Point.TheVariants.{Heal, Say}
+use Rattle.step_words.specs.declared.point.Point.TheVariants.{Heal}
 use Rattle.step_words.specs.Seats.{Seated, Free, Latched, with_seat}
 use Rattle.step_state.specs.State.{State, IsSession, sess, seat}
 use Rattle.step_state.specs.Moving.{MovesSeat, TurnsSuspect, SaysTurned}

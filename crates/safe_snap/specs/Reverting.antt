@@ -1,5 +1,5 @@
 -- The steps that revert the source to a snapshot: its copied pages are gathered one by one, and swapped in at one moment.
-use Rattle.std.specs.Prelude.{ℕ, ◌≡◌, ◌<◌, Bool, true, false, IsTrue, List, [], ◌∷◌, ◌++◌, map, length, if◌then◌else◌, Some, None}
+use Rattle.std.specs.Prelude.{ℕ, ◌≡◌, true, false, IsTrue, List, [], ◌∷◌, ◌++◌, map, Some}
 use Rattle.page_base.specs.declared.numbers.PageId.{PageId}
 use Rattle.page_base.specs.declared.numbers.SnapNo.{SnapNo}
 use Rattle.page_fmt.specs.Content.{IsPage}

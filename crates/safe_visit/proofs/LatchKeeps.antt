@@ -1,24 +1,19 @@
 -- A latch that is taken leaves to others what it owes them, and shows the rest.
-use Rattle.std.proofs.Common.{◌≡◌, ℕ, ◌+◌, ◌-◌, Bool, true, false, List, [], ◌∷◌, ◌++◌, refl, ap, sym, subst, ◌∙◌, inl, inr, arith, map}
-use Rattle.std.specs.Prelude.{Option, Some, None, option_map, slice_index_or}
-use Rattle.page_base.specs.declared.numbers.Mode.{Mode}
+use Rattle.std.proofs.Common.{◌≡◌, ℕ, ◌+◌, Bool, true, false, List, [], ◌∷◌, ◌++◌, refl, ap, sym, subst, ◌∙◌, inl, inr, arith, map}
+use Rattle.std.specs.Prelude.{Some, None}
 use Rattle.page_base.specs.declared.numbers.PageId.{PageId}
 use Rattle.page_base.specs.declared.numbers.SessNo.{SessNo}
-use Rattle.page_base.specs.declared.numbers.SnapNo.{SnapNo}
 use Rattle.latch_book.specs.declared.latch.LatchMode.{LatchMode}
 use Rattle.latch_book.specs.Latches.{latch_of, with_latch, IsLatchBook}
 use Rattle.latch_book.specs.Latches as latch
 use Rattle.latch_book.proofs.LatchLemmas.{Holds-with_latch, latch_of-with_latch, IsLatchBook-with_latch}
-use Rattle.plain_model.specs.State.{Plain, session, see}
+use Rattle.plain_model.specs.State.{session, see}
 use Rattle.plain_steps.specs.Modes.{suffices}
 use Rattle.plain_steps.specs.Phases.{first_mode}
 use Rattle.rec_log.specs.Records.{Record}
-use Rattle.snap_cat.specs.Catalog.{Snap as SnapEntry, snap_at, Catalog}
-use Rattle.sparse_set.specs.Sparse.{Sparse}
 use Rattle.snap_pages.specs.Owed.{count_on}
 use Rattle.snap_pages.specs.Cuts.{marked_by, sparse_by}
-use Rattle.snap_pages.specs.Shown.{Shown, catalog, counts, pins, set_of}
-use Rattle.snap_pages.proofs.CutLemmas.{place_some, by_place}
+use Rattle.snap_pages.specs.Shown.{Shown, catalog, counts, pins}
 use Rattle.sys_cat.specs.declared.desc.TableDesc.{TableDesc}
 use Rattle.step_words.specs.declared.point.Point.{Point}
 use Rattle.step_words.specs.declared.point.Point.TheVariants.{Start, Latch as Latching, Look, Fetch, Take, Claim, Change, Undo, Heal, Commit, Say}
@@ -32,7 +27,7 @@ use Rattle.step_state.specs.State.{State, sess, seat, machine, alone_of, before_
 use Rattle.step_state.specs.Holding.{lock_at}
 use Rattle.step_state.specs.Posed.{FitsGrip, lacks_course, lacks_work, is_making, IsIn, IsOnCourse, IsPosed}
 use Rattle.step_state.specs.Own.{IsSeated, IsInStep, IsAside, IsSafeSession, page_at, is_gone, is_between}
-use Rattle.step_state.specs.Snapshots.{IsBeside, name_by, page_read}
+use Rattle.step_state.specs.Snapshots.{IsBeside, page_read}
 use Rattle.step_state.specs.Whole.{grip_pin, gathered_on, seat_pins, snap_told}
 use Rattle.step_state.specs.Told.{IsToldSource, IsToldReading}
 use Rattle.step_state.specs.Safe.{Safe, IsContent}
@@ -179,7 +174,7 @@ module _ (e s : State) (k : ℕ) (safe : Safe e) (d : DoesLatch e s k) where
     idle = me.in_step.idle;
     making = me.in_step.making;
     gone = me.in_step.gone ∙ step (λ old new. is_gone old ≡ is_gone new) refl refl refl (λ o. refl) (λ a. refl) refl;
-    rested = λ t. me.in_step.rested (elim t [ | inl b ↦ absurd (step (λ old new. is_between new ≡ true → ⊥) (λ q. cc) (λ q. cc) (λ q. cc) (λ o q. cc) (λ a q. cc) (λ q. cc) b) | inr none ↦ inr none ]);
+    rested = λ t. me.in_step.rested (elim t [ inl b ↦ absurd (step (λ old new. is_between new ≡ true → ⊥) (λ q. cc) (λ q. cc) (λ q. cc) (λ o q. cc) (λ a q. cc) (λ q. cc) b) | inr none ↦ inr none ]);
     begun = λ f. me.in_step.begun (step (λ old new. is_between new ≡ false → is_between old ≡ false) (λ q. refl) (λ q. refl) (λ q. refl) (λ o q. refl) (λ a q. refl) (λ q. refl) f);
   }
 

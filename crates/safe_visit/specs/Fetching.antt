@@ -10,7 +10,7 @@ use Rattle.plain_model.specs.declared.reply.Reply.TheVariants.{Msg}
 use Rattle.plain_model.specs.declared.reply.TheConstants.Message.{SUSPECT}
 use Rattle.plain_model.specs.Messages.{plain}
 use Rattle.snap_cat.specs.declared.snapshot.SnapState.TheVariants.{Suspect}
-use Rattle.snap_pages.specs.Shown.{Shown, set_of, state_of}
+use Rattle.snap_pages.specs.Shown.{set_of, state_of}
 use Rattle.snap_pages.specs.Steps.{SameSnaps, SamePlaces, ChangesSet}
 use Rattle.snap_pages.specs.Views.{IsKept, KeepsViews, view}
 use Rattle.step_words.specs.declared.point.Point.{Point}
@@ -100,6 +100,7 @@ pub record DoesLoseRead (e s : State) (k : ℕ) : Type 0 where
   pub at : (seat e k).sitting.point ≡ Fetch page
   pub has : (seat e k).sitting.course ≡ Some course
   pub snap : course.at ≡ Snap
+  pub visits : page_visited course.stage ≡ Some page
   pub found : (seat e k).sitting.found ≡ true
   pub hold : (seat e k).hold ≡ Latched page Sh
   pub cut : ℕ

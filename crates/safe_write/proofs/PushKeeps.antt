@@ -1,35 +1,31 @@
 -- A copy and a mark leave to others what they owe them, and show the rest.
-use Rattle.std.proofs.Common.{◌≡◌, ◌≢◌, ℕ, Bool, true, false, cond, List, [], length, refl, ap, sym, subst, ◌∙◌, inl, inr, arith, map}
-use Rattle.std.specs.Prelude.{◌⊎◌, Option, Some, None, IsTrue, is_some}
+use Rattle.std.proofs.Common.{◌≡◌, ◌≢◌, ℕ, Bool, true, false, List, refl, ap, sym, subst, ◌∙◌, inl, inr, arith, map}
+use Rattle.std.specs.Prelude.{Option, Some, None, IsTrue}
 use Rattle.page_base.specs.declared.numbers.Mode.{Mode}
 use Rattle.page_base.specs.declared.numbers.PageId.{PageId}
 use Rattle.page_base.specs.declared.numbers.SnapNo.{SnapNo}
-use Rattle.page_base.specs.Pages.{Pages, blank, image_at, page_or, with_page}
+use Rattle.page_base.specs.Pages.{Pages, blank, image_at, page_or}
 use Rattle.page_base.proofs.PagesLemmas.{page_or-with_page_other, cases_page}
-use Rattle.buf_pool.specs.Pool.{Pooled, img as pool_img, pins as pool_pins}
+use Rattle.buf_pool.specs.Pool.{Pooled, pins as pool_pins}
 use Rattle.latch_book.specs.declared.latch.Latch.{Latch}
 use Rattle.latch_book.specs.declared.latch.LatchMode.TheVariants.{Ex}
 use Rattle.latch_book.specs.Latches.{Latches, latch_of, IsLatchBook}
 use Rattle.latch_book.proofs.LatchLemmas.{some_latch}
 use Rattle.plain_model.specs.State.{session, see}
 use Rattle.sparse_set.specs.Sparse.{Sparse, is_copied, sparse_page, marked}
-use Rattle.snap_cat.specs.Catalog.{Snap as SnapEntry, Catalog}
-use Rattle.snap_pages.specs.Cuts.{place_of, marked_by, sparse_by, is_sound_by}
+use Rattle.snap_cat.specs.Catalog.{Catalog}
+use Rattle.snap_pages.specs.Cuts.{place_of, marked_by, sparse_by}
 use Rattle.snap_pages.specs.Shown.{Shown, catalog, counts, pins, img, set_of, cut_of}
-use Rattle.snap_pages.specs.Steps.{ChangesSet, SamePlaces}
-use Rattle.snap_pages.specs.Views.{IsKept, KeepsViews}
+use Rattle.snap_pages.specs.Views.{IsKept}
 use Rattle.snap_pages.proofs.CutLemmas.{place_of_cut}
 use Rattle.sys_cat.specs.declared.desc.TableDesc.{TableDesc}
 use Rattle.page_tables.specs.Owners.{is_there}
 use Rattle.step_state.specs.Whole.{snap_told}
-use Rattle.step_words.specs.declared.point.Point.{Point}
-use Rattle.step_words.specs.declared.point.Point.TheVariants.{Change, Claim, Undo, Heal}
-use Rattle.step_words.specs.Courses.{Course}
-use Rattle.step_words.specs.Seats.{Seated, Grip, Free, Latched, Fetched, latch_at}
+use Rattle.step_words.specs.Seats.{Seated, Free, Latched, Fetched, latch_at}
 use Rattle.step_state.specs.State.{State, IsSession, sess, seat, machine, alone_of, before_of}
 use Rattle.step_state.specs.Holding.{lock_at}
 use Rattle.step_state.specs.Posed.{IsPosed}
-use Rattle.step_state.specs.Own.{IsSeated, IsInStep, IsAside, IsSafeSession}
+use Rattle.step_state.specs.Own.{IsSeated, IsInStep, IsSafeSession}
 use Rattle.step_state.specs.Snapshots.{IsBeside, HoldsEx, IsKeptBy, page_read}
 use Rattle.step_state.specs.Told.{IsToldSource, IsToldReading}
 use Rattle.step_state.specs.Safe.{Safe, IsContent}

@@ -1,5 +1,5 @@
 -- A step that changes no page of the source: what it leaves of the whole, and to others.
-use Rattle.std.proofs.Common.{◌≡◌, ◌≢◌, ℕ, ◌+◌, ◌-◌, ◌≤◌, Bool, true, false, List, [], ◌∷◌, ◌++◌, length, map, refl, ap, sym, subst, ◌∙◌, inl, inr, arith}
+use Rattle.std.proofs.Common.{◌≡◌, ◌≢◌, ℕ, ◌+◌, ◌-◌, ◌≤◌, true, false, List, [], ◌∷◌, ◌++◌, length, map, refl, ap, sym, subst, ◌∙◌, inl, inr, arith}
 use Rattle.std.specs.Prelude.{if◌then◌else◌, Option, Some, None, IsTrue, option_map, is_some, slice_index_or}
 use Rattle.std.specs.Option.{option_map_or}
 use Rattle.std.specs.List.{AllByRecursion}
@@ -13,7 +13,6 @@ use Rattle.lock_book.specs.Locks.{lock_of, IsLockBook}
 use Rattle.page_fmt.specs.Content.{content, IsPage}
 use Rattle.page_fmt.specs.Seen.{Looked}
 use Rattle.plain_model.specs.Legal.{Legal}
-use Rattle.plain_model.specs.Meaning.{change_and_reply}
 use Rattle.plain_model.specs.State.{Plain, Session, session, committed, see, copy, master}
 use Rattle.plain_model.specs.Tables.{Tables, apply}
 use Rattle.rec_log.specs.Undone.{undone}
@@ -22,7 +21,7 @@ use Rattle.snap_cat.specs.Catalog.{Snap, Catalog, IsCatalog, snap_at}
 use Rattle.snap_pages.specs.Cuts.{place_of, is_open_by, marked_by, sparse_by, is_sound_by, owed_by}
 use Rattle.snap_pages.specs.Dues.{is_sound}
 use Rattle.snap_cat.specs.declared.snapshot.SnapState.TheVariants.{Making, Online, Suspect}
-use Rattle.snap_pages.specs.Shown.{Shown, catalog, count, counts, img, pins, set_of, state_of, owes_of, IsOpen}
+use Rattle.snap_pages.specs.Shown.{Shown, catalog, counts, img, set_of, state_of, owes_of, IsOpen}
 use Rattle.snap_pages.specs.Slots.{slots_of}
 use Rattle.snap_pages.specs.Steps.{SameSnaps, SamePlaces}
 use Rattle.snap_pages.specs.Views.{IsKept, KeepsViews, seen, view}
@@ -42,7 +41,7 @@ use Rattle.step_state.specs.Holding.{lock_at, writes}
 use Rattle.step_state.specs.Posed.{IsIn, IsOnCourse}
 use Rattle.step_state.specs.Snapshots.{HoldsEx, IsBeside, IsKeptBy, name_by, page_read}
 use Rattle.step_state.specs.Own.{IsSeated, IsInStep, IsAside, IsSafeSession, making_in, IsPlaced}
-use Rattle.step_state.specs.Whole.{IsWholeSafe, IsReverting, seat_pins, seats_pins, snaps_pins, snap_told}
+use Rattle.step_state.specs.Whole.{IsWholeSafe, seats_pins, snaps_pins, snap_told}
 use Rattle.step_state.specs.Told.{IsToldSource, IsToldReading, IsTold, IsToldWhole, GoBack, AreSized, SpreadBack}
 use Rattle.step_state.specs.Safe.{Safe, IsContent}
 use Rattle.step_state.specs.Steps.{LeavesSnaps, Guards, LeavesQuiet, Steps, Quietly}

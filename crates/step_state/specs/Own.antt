@@ -4,8 +4,7 @@ use Rattle.page_base.specs.declared.numbers.Mode.{Mode}
 use Rattle.page_base.specs.declared.numbers.PageId.{PageId}
 use Rattle.latch_book.specs.declared.latch.Latch.{Latch}
 use Rattle.latch_book.specs.Latches.{latch_of}
-use Rattle.plain_model.specs.declared.stmt.Stmt.{Stmt}
-use Rattle.plain_model.specs.State.{Plain, Session, session, master}
+use Rattle.plain_model.specs.State.{Session, session, master}
 use Rattle.snap_pages.specs.Shown.{Shown, counts}
 use Rattle.page_tables.specs.Owners.{is_there}
 use Rattle.step_words.specs.Sittings.{stmt_at}
@@ -15,7 +14,7 @@ use Rattle.step_words.specs.declared.stage.DbKind.TheVariants.{Source}
 use Rattle.step_words.specs.declared.stage.Stage.TheVariants.{Claim as Claiming, Edit as Editing}
 use Rattle.step_words.specs.Courses.{Course}
 use Rattle.step_words.specs.Seats.{Seated, latch_at, Free}
-use Rattle.step_state.specs.State.{State, sess, seat, works, machine}
+use Rattle.step_state.specs.State.{State, sess, seat, machine}
 use Rattle.step_state.specs.Holding.{lock_at, HasLocks}
 use Rattle.step_state.specs.Posed.{IsPosed}
 use Rattle.step_state.specs.Snapshots.{IsBeside, name_by}
