@@ -1,18 +1,16 @@
 -- A snapshot's copy that can't be read: it turns suspect, and leaves to others what it owes them.
 use Rattle.std.proofs.Common.{◌≡◌, ℕ, Bool, true, false, List, refl, ap, sym, subst, ◌∙◌, inl, inr, arith, map, ◌≢◌}
-use Rattle.std.specs.Prelude.{Option, Some, None, IsTrue, ◌⊎◌}
+use Rattle.std.specs.Prelude.{Option, Some, None, ◌⊎◌}
 use Rattle.snap_cat.specs.Catalog.{Catalog, snap_at}
 use Rattle.page_base.specs.declared.numbers.PageId.{PageId}
-use Rattle.page_base.specs.declared.numbers.SnapNo.{SnapNo}
 use Rattle.latch_book.specs.declared.latch.LatchMode.TheVariants.{Sh, Ex}
 use Rattle.latch_book.specs.Latches.{Latches, latch_of, IsLatchBook}
 use Rattle.plain_model.specs.State.{session, see}
 use Rattle.sparse_set.specs.Sparse.{Sparse, is_copied, sparse_page}
-use Rattle.snap_pages.specs.Cuts.{place_of, marked_by, sparse_by}
-use Rattle.snap_pages.specs.Views.{IsKept, view}
-use Rattle.page_base.specs.Pages.{Pages, image_at, page_or}
+use Rattle.snap_pages.specs.Cuts.{marked_by, sparse_by}
+use Rattle.page_base.specs.Pages.{Pages, page_or}
 use Rattle.buf_pool.specs.Pool.{Pooled, pins as pool_pins}
-use Rattle.snap_pages.specs.Shown.{counts, pins, set_of, Shown, catalog, state_of}
+use Rattle.snap_pages.specs.Shown.{counts, pins, set_of, state_of}
 use Rattle.sys_cat.specs.declared.desc.TableDesc.{TableDesc}
 use Rattle.step_state.proofs.TurnLemmas.{stays_turned, moves_turned, turned_file, in_step_later}
 use Rattle.latch_book.proofs.LatchLemmas.{some_latch}
@@ -24,24 +22,22 @@ use Rattle.plain_model.specs.declared.reply.Reply.{Reply}
 use Rattle.plain_model.specs.declared.reply.Reply.TheVariants.{Ok, Count, Rows, Msg}
 use Rattle.plain_model.specs.declared.reply.TheConstants.Message.{SUSPECT, NO_ROOM, LOG_FAILED}
 use Rattle.plain_model.specs.Messages.{plain}
-use Rattle.step_words.specs.Courses.{Course, is_planned}
+use Rattle.step_words.specs.Courses.{is_planned}
 use Rattle.step_words.specs.declared.stage.Stage.TheVariants.{AskAll, ScanZero, AskTable, Scan, Plan, Claim as Claiming, Edit as Editing, End}
 use Rattle.step_words.specs.declared.stage.Stage.{Stage}
-use Rattle.step_words.specs.declared.point.Point.{Point}
-use Rattle.step_words.specs.declared.point.Point.TheVariants.{Take}
 use Rattle.step_words.specs.Sittings.{stmt_at, undoes_all}
 use Rattle.step_words.specs.Seats.{Seated, Free, Latched, latch_at}
 use Rattle.step_state.specs.State.{State, sess, seat, machine, alone_of, before_of}
 use Rattle.step_state.specs.Holding.{lock_at}
-use Rattle.step_state.specs.Posed.{FitsGrip, is_making, IsPosed}
-use Rattle.step_state.specs.Own.{IsSeated, IsInStep, IsSafeSession, page_at, is_gone, is_between}
-use Rattle.step_state.specs.Snapshots.{IsBeside, IsKeptBy, page_read, HoldsEx}
+use Rattle.step_state.specs.Posed.{is_making, IsPosed}
+use Rattle.step_state.specs.Own.{IsSeated, IsInStep, IsSafeSession, is_gone, is_between}
+use Rattle.step_state.specs.Snapshots.{IsBeside, IsKeptBy, HoldsEx}
 use Rattle.step_state.specs.Whole.{snap_told}
 use Rattle.step_state.specs.Told.{IsToldSource, IsToldReading}
 use Rattle.step_state.specs.Safe.{Safe, IsContent}
 use Rattle.step_state.specs.Steps.{Steps}
 use Rattle.step_state.specs.Moving.{StaysShown, MovesOn}
-use Rattle.step_state.proofs.MoveLemmas.{beside_stays, on_moved, source_moved, seat_moves, still, moves_on}
+use Rattle.step_state.proofs.MoveLemmas.{beside_stays, still, moves_on}
 use Rattle.step_state.proofs.ApartLemmas.{by_place_no, marked_on, sparse_at, stays_set}
 use Rattle.safe_visit.specs.Fetching.{seat_lost, DoesLoseRead, Loses, Turns, Is}
 
@@ -171,7 +167,7 @@ module _ (e s : State) (k : ℕ) (safe : Safe e) (d : DoesLoseRead e s k) where
     idle = me.in_step.idle;
     making = me.in_step.making;
     gone = me.in_step.gone ∙ ap is_gone d.at;
-    rested = λ t. me.in_step.rested (elim t [ | inl b ↦ absurd (let wrong : false ≡ true = b in cc) | inr none ↦ inr none ]);
+    rested = λ t. me.in_step.rested (elim t [ inl b ↦ absurd (let wrong : false ≡ true = b in cc) | inr none ↦ inr none ]);
     begun = λ f. me.in_step.begun (ap is_between d.at);
   }
 
