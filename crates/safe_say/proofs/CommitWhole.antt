@@ -1,5 +1,5 @@
 -- What a commit leaves of the whole, and of others, whatever the files tell.
-use Rattle.std.proofs.Common.{◌≡◌, ◌≢◌, ℕ, ◌+◌, ◌-◌, ◌≤◌, Bool, true, false, cond, ◌==◌, List, [], length, refl, ap, sym, subst, ◌∙◌, inl, arith}
+use Rattle.std.proofs.Common.{◌≡◌, ◌≢◌, ℕ, ◌+◌, ◌-◌, ◌≤◌, Bool, true, false, cond, ◌==◌, List, [], length, refl, ap, sym, subst, ◌∙◌, inl, arith, ◌∷◌}
 use Rattle.std.specs.Prelude.{Option, Some, None, slice_index_or}
 use Rattle.page_base.specs.declared.numbers.PageId.{PageId}
 use Rattle.page_base.specs.declared.numbers.SessNo.{SessNo}
@@ -96,6 +96,7 @@ module _ (e s : State) (k : ℕ) (safe : Safe e) (d : DoesCommit e s k) where
   pub guards : Guards e s k
   guards = record {
     fixed = d.fixed;
+    history = (Said (sess k) d.number (seat e k).began d.reply ∷ [], d.events);
     many = as_many;
     seats = else;
     latches = λ j ne. ap (λ ls. latch_of ls (sess j)) d.latches;

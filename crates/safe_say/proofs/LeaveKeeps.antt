@@ -1,5 +1,5 @@
 -- A session that ends leaves to others what it owes them, and shows the rest.
-use Rattle.std.proofs.Common.{◌≡◌, ℕ, ◌+◌, ◌-◌, ◌==◌, ◌<◌, ◌≤◌, true, cond, List, [], length, map, refl, ap, sym, subst, ◌∙◌, inl, inr, arith, eqb-true}
+use Rattle.std.proofs.Common.{◌≡◌, ℕ, ◌+◌, ◌-◌, ◌==◌, ◌<◌, ◌≤◌, true, cond, List, [], ◌∷◌, length, map, refl, ap, sym, subst, ◌∙◌, inl, inr, arith, eqb-true}
 use Rattle.std.specs.Prelude.{Option, Some, None, IsTrue, nat_le}
 use Rattle.std.proofs.lemmas.Bool.{cases_Bool, and_parts, leb-true}
 use Rattle.std.proofs.lemmas.List.{get_or-set_same}
@@ -79,6 +79,7 @@ module _ (e s : State) (k : ℕ) (safe : Safe e) (d : DoesLeave e s k) where
     cut = ap (λ (w : Plain). w.next_cut) history;
     source = ap committed history;
     copies = λ snap. ap (λ (w : Plain). copy w snap) history;
+    history = (Left (sess k) ∷ [], d.events);
     legal = λ legal. subst (λ es. Legal e.fixed.opening e.fixed.scripts es) (sym d.events) (history_more e.fixed.opening e.fixed.scripts e.events (Left (sess k)) legal d.comes);
   }
 

@@ -21,6 +21,7 @@ use Rattle.snap_pages.specs.Dues.{is_sound}
 use Rattle.snap_pages.specs.Owed.{count_on}
 use Rattle.snap_pages.specs.Shown.{catalog, pins, IsOpen}
 use Rattle.snap_pages.specs.Views.{IsKept, view}
+use Rattle.stmt_course.specs.Planning.{CanBeTold}
 use Rattle.step_words.specs.Seats.{Seated, seat_in, with_seat}
 use Rattle.step_state.specs.State.{State, Fixed, IsSession, sess, seat, works, machine}
 use Rattle.step_state.specs.Holding.{lock_at}
@@ -110,6 +111,7 @@ module _ (e s : State) (k : ℕ) (safe : Safe e) (d : DoesCut e s k) where
     locks = subst IsLockBook (sym d.locks) safe.whole.locks;
     sessions = as_many ∙ safe.whole.sessions ∙ ap (λ (f : Fixed). length f.scripts) (sym d.fixed);
     few = omega (arith, as_many, safe.whole.few);
+    small = subst CanBeTold (sym (files_same e s k safe d)) safe.whole.small;
     named = subst (λ (f : Fixed). f.opening.source ≢ master) (sym d.fixed) safe.whole.named;
     pinned = pins_due;
     paid = λ n there online. elim (old_or_new e s k safe d n there) [
@@ -186,6 +188,7 @@ module _ (e s : State) (k : ℕ) (safe : Safe e) (d : DoesCut e s k) where
   pub guards : Guards e s k
   guards = record {
     fixed = d.fixed;
+    history = (CutAt (sess k) d.snap ∷ [], d.events);
     many = as_many;
     seats = else;
     latches = λ j ne. ap (λ ls. latch_of ls (sess j)) d.latches;

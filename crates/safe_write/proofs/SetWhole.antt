@@ -12,6 +12,7 @@ use Rattle.lock_book.specs.Locks.{lock_of, IsLockBook}
 use Rattle.plain_model.specs.State.{Plain, session}
 use Rattle.snap_cat.specs.Catalog.{Catalog}
 use Rattle.snap_pages.specs.Shown.{catalog, counts, img, pins}
+use Rattle.step_state.proofs.MoveLemmas.{goes_still}
 use Rattle.step_words.specs.Sittings.{stmt_at}
 use Rattle.step_words.specs.Seats.{Seated}
 use Rattle.step_state.specs.State.{State, IsSession, sess, seat, machine, Fixed}
@@ -76,6 +77,7 @@ module _ (e s : State) (k : ℕ) (page : PageId) (y : Seated) (safe : Safe e) (d
   pub guards : Guards e s k
   guards = record {
     fixed = d.fixed;
+    history = goes_still e.events s.events d.events;
     many = as_many;
     seats = else;
     latches = λ j ne. ap (λ ls. latch_of ls (sess j)) d.latches ∙ latch_of-without_latch e.latches (sess k) (sess j) (λ same. ne (ap (λ (w : SessNo). w.0) same));

@@ -4,6 +4,7 @@ use Rattle.std.specs.Prelude.{if◌then◌else◌, Option, Some, None, IsTrue, o
 use Rattle.std.specs.Option.{option_map_or}
 use Rattle.std.specs.List.{AllByRecursion}
 use Rattle.std.proofs.lemmas.Bool.{cases_eq, cases_Bool}
+use Rattle.std.proofs.lemmas.List.{append-nil}
 use Rattle.page_base.specs.declared.numbers.Mode.{Mode}
 use Rattle.page_base.specs.declared.numbers.PageId.{PageId}
 use Rattle.page_base.specs.declared.numbers.SnapNo.{SnapNo}
@@ -31,6 +32,8 @@ use Rattle.page_tables.specs.Bases.{IsBase}
 use Rattle.page_tables.specs.Owners.{is_there}
 use Rattle.page_tables.specs.Sheets.{sheets}
 use Rattle.open_work.specs.Open.{Parts, settled, alone, before}
+use Rattle.plain_model.specs.declared.event.Event.{Event}
+use Rattle.stmt_course.specs.Planning.{CanBeTold}
 use Rattle.step_words.specs.Courses.{Course}
 use Rattle.step_words.specs.Sittings.{stmt_at, undoes_all}
 use Rattle.step_words.specs.Seats.{Seated, Gathered, seat_in}
@@ -44,7 +47,7 @@ use Rattle.step_state.specs.Own.{IsSeated, IsInStep, IsAside, IsSafeSession, mak
 use Rattle.step_state.specs.Whole.{IsWholeSafe, seats_pins, snaps_pins, snap_told}
 use Rattle.step_state.specs.Told.{IsToldSource, IsToldReading, IsTold, IsToldWhole, GoBack, AreSized, SpreadBack}
 use Rattle.step_state.specs.Safe.{Safe, IsContent}
-use Rattle.step_state.specs.Steps.{LeavesSnaps, Guards, LeavesQuiet, Steps, Quietly}
+use Rattle.step_state.specs.Steps.{LeavesSnaps, Guards, LeavesQuiet, Steps, Quietly, GoesOn}
 use Rattle.step_state.specs.Moving.{MovesSeat, StaysShown, MovesMachine, MovesOn, MovesPins}
 use Rattle.step_state.proofs.KeptLemmas.{source_same}
 use Rattle.step_state.proofs.MachineLemmas.{machine_same}
@@ -270,6 +273,7 @@ module _ (e s : State) (k : ℕ) (x : Seated) (held : ℕ → Option Mode) (m : 
   guards : LeavesBeside → ((j : ℕ) → j ≢ k → latch_of s.latches (sess j) ≡ latch_of e.latches (sess j)) → Guards e s k
   guards apart latches = record {
     fixed = d.fixed;
+    history = d.machine.history;
     many = as_many;
     seats = elsewhere;
     latches = latches;
@@ -341,6 +345,7 @@ module _ (e s : State) (k : ℕ) (x : Seated) (held : ℕ → Option Mode) (m : 
       locks = d.book;
       sessions = as_many ∙ safe.whole.sessions ∙ ap (λ (f : Fixed). length f.scripts) (sym d.fixed);
       few = omega (arith, as_many, safe.whole.few);
+      small = subst CanBeTold (sym files) safe.whole.small;
       named = subst (λ (f : Fixed). f.opening.source ≢ master) (sym d.fixed) safe.whole.named;
       pinned = λ p.
           let moved = ap (λ xs. seats_pins xs p) d.seats in
@@ -483,10 +488,14 @@ module _ (e s : State) (k : ℕ) (x : Seated) (held : ℕ → Option Mode) (m : 
 
 -- NOTHING IS SAID, AND NO LOCK CHANGES
 
+pub goes_still : (old new : List Event) → new ≡ old → GoesOn old new
+goes_still old new same = ([], same ∙ sym (append-nil old))
+
 still_machine : (e s : State) (k : ℕ) (x : Seated) → MovesSeat e s k x → (snaps : (machine e).snaps ≡ map snap_told (catalog e.pages).snaps → (machine e).snaps ≡ map snap_told (catalog s.pages).snaps) → MovesMachine e s k (session (machine e) k)
 still_machine e s k x d snaps =
     let history : machine s ≡ machine e = machine_same e s d.fixed d.events in
     record {
+      history = goes_still e.events s.events d.events;
       others = λ j first ne. ap (λ (w : Plain). session w j) history;
       own = ap (λ (w : Plain). session w k) history;
       scripts = ap (λ (w : Plain). w.scripts) history;

@@ -24,6 +24,7 @@ use Rattle.snap_pages.specs.Views.{IsKept, KeepsViews, view}
 use Rattle.sys_cat.specs.declared.desc.TableDesc.{TableDesc}
 use Rattle.page_tables.specs.Bases.{IsBase}
 use Rattle.page_tables.specs.Sheets.{sheets}
+use Rattle.stmt_course.specs.Planning.{CanBeTold}
 use Rattle.step_words.specs.Seats.{Seated, Gathered, seat_in, with_seat}
 use Rattle.step_state.specs.State.{State, Fixed, IsSession, seat, machine}
 use Rattle.step_state.specs.Snapshots.{HoldsEx, IsKeptBy, name_by}
@@ -132,6 +133,7 @@ module _ (e s : State) (k : ℕ) (is : IsSession e k) (x : Seated) (whole : IsWh
     locks = locks;
     sessions = seats_many ∙ whole.sessions ∙ ap (λ (f : Fixed). length f.scripts) (sym fixed);
     few = omega (arith, seats_many, whole.few);
+    small = subst CanBeTold (sym places.counts) whole.small;
     named = subst (λ (f : Fixed). f.opening.source ≢ master) (sym fixed) whole.named;
     pinned = λ p.
         let moved = ap (λ xs. seats_pins xs p) seats in

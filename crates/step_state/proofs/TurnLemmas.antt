@@ -160,6 +160,7 @@ module _ (e s : State) (k : ℕ) (n : SnapNo) (safe : Safe e) (d : TurnsSuspect 
     cut = ap (λ (w : Plain). w.next_cut) history;
     source = ap committed history;
     copies = λ snap. ap (λ (w : Plain). copy w snap) history;
+    history = (Turned name ∷ [], says.events);
     legal = λ legal. subst (λ es. Legal e.fixed.opening e.fixed.scripts es) (sym says.events) (history_more e.fixed.opening e.fixed.scripts e.events (Turned name) legal says.comes);
   }
 

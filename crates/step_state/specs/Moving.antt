@@ -14,6 +14,7 @@ use Rattle.snap_cat.specs.declared.snapshot.SnapState.TheVariants.{Suspect}
 use Rattle.snap_pages.specs.Shown.{Shown, catalog, counts, img, pins, set_of, state_of, owes_of, cut_of, IsOpen}
 use Rattle.snap_pages.specs.Steps.{SamePlaces}
 use Rattle.snap_pages.specs.Views.{KeepsViews}
+use Rattle.step_state.specs.Steps.{GoesOn}
 use Rattle.step_words.specs.Seats.{Seated, with_seat}
 use Rattle.step_state.specs.State.{State, IsSession, machine}
 use Rattle.step_state.specs.Holding.{lock_at}
@@ -57,6 +58,7 @@ pub record MovesMachine (e s : State) (k : ℕ) (m : Session) : Type 0 where
   pub cut : (machine s).next_cut ≡ (machine e).next_cut
   pub source : committed (machine s) ≡ committed (machine e)
   pub copies : (name : List ℕ) → copy (machine s) name ≡ copy (machine e) name
+  pub history : GoesOn e.events s.events
   pub legal : Legal e.fixed.opening e.fixed.scripts e.events → Legal e.fixed.opening e.fixed.scripts s.events
 
 -- session k has this seat, these locks, and is this in the plain machine

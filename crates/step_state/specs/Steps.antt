@@ -1,5 +1,5 @@
 -- What a step of one session leaves to the others, and what it has to show.
-use Rattle.std.specs.Prelude.{ℕ, ◌≡◌, ◌≢◌, ◌⊎◌, ◌<◌, ◌≤◌, true, List, length, Some}
+use Rattle.std.specs.Prelude.{ℕ, ◌≡◌, ◌≢◌, ◌⊎◌, ◌<◌, ◌≤◌, true, List, length, Some, ◌++◌}
 use Rattle.page_base.specs.declared.numbers.PageId.{PageId}
 use Rattle.page_base.specs.declared.numbers.SnapNo.{SnapNo}
 use Rattle.latch_book.specs.Latches.{latch_of}
@@ -8,6 +8,7 @@ use Rattle.snap_pages.specs.Cuts.{place_of, is_open_by, marked_by, sparse_by, is
 use Rattle.snap_pages.specs.Shown.{catalog, counts, img}
 use Rattle.snap_pages.specs.Views.{IsKept, view}
 use Rattle.sys_cat.specs.declared.desc.TableDesc.{TableDesc}
+use Rattle.plain_model.specs.declared.event.Event.{Event}
 use Rattle.step_state.specs.State.{State, IsSession, sess, seat, machine, alone_of, before_of}
 use Rattle.step_state.specs.Holding.{lock_at}
 use Rattle.step_state.specs.Snapshots.{HoldsEx, IsKeptBy, name_by, page_read}
@@ -30,9 +31,14 @@ pub record LeavesSnaps (e s : State) (k : ℕ) : Type 0 where
   pub marks : (j c : ℕ) (p : PageId) → IsSession e j → j ≢ k → (seat e j).copied ≡ Some c → HoldsEx (seat e j) p → is_sound_by s.pages c ≡ true → marked_by s.pages c p ≡ marked_by e.pages c p
   pub bytes : (j c : ℕ) (p : PageId) → IsSession e j → j ≢ k → (seat e j).copied ≡ Some c → HoldsEx (seat e j) p → IsKeptBy s.pages c → IsKeptBy e.pages c × (sparse_by s.pages c p ≡ sparse_by e.pages c p) × (img s.pages p ≡ img e.pages p)
 
+-- the history goes on, and is never told anew
+abbrev pub GoesOn : List Event → List Event → Type 0
+GoesOn old new = (came : List Event) × (new ≡ old ++ came)
+
 -- whatever the files tell, a step of k leaves to each other session what it holds, and what the plain machine knows of it
 pub record Guards (e s : State) (k : ℕ) : Type 0 where
   pub fixed : s.fixed ≡ e.fixed
+  pub history : GoesOn e.events s.events
   pub many : length s.seats ≡ length e.seats
   pub seats : (j : ℕ) → j ≢ k → seat s j ≡ seat e j
   pub latches : (j : ℕ) → j ≢ k → latch_of s.latches (sess j) ≡ latch_of e.latches (sess j)

@@ -9,10 +9,11 @@ use Rattle.plain_model.specs.State.{Snap as PlainSnap, master}
 use Rattle.snap_cat.specs.declared.snapshot.SnapState.{SnapState}
 use Rattle.snap_cat.specs.declared.snapshot.SnapState.TheVariants.{Making, Online, Suspect}
 use Rattle.snap_cat.specs.Catalog.{Snap, IsCatalog, snap_at}
-use Rattle.snap_pages.specs.Shown.{Shown, catalog, count, pins, set_of, state_of, owes_of, cut_of, IsOpen, IsWhole}
+use Rattle.snap_pages.specs.Shown.{Shown, catalog, count, pins, set_of, state_of, owes_of, cut_of, IsOpen, IsWhole, counts}
 use Rattle.snap_pages.specs.Owed.{count_on}
 use Rattle.sparse_set.specs.Sparse.{is_copied}
 use Rattle.std.specs.List.{AllByRecursion}
+use Rattle.stmt_course.specs.Planning.{CanBeTold}
 use Rattle.step_words.specs.Seats.{Seated, Grip, Free, Latched, Fetched, Gathered}
 use Rattle.step_state.specs.State.{State, IsSession, seat, machine}
 
@@ -65,6 +66,8 @@ pub record IsWholeSafe (e : State) : Type 0 where
   pub locks : IsLockBook e.locks
   pub sessions : length e.seats ≡ length e.fixed.scripts
   pub few : length e.seats ≤ 64
+  -- the files are small enough for table 0 to tell of their pages
+  pub small : CanBeTold (counts e.pages)
   pub named : e.fixed.opening.source ≢ master
   -- the pins are those that are due
   pub pinned : (p : PageId) → pins e.pages p ≡ due_pins e p
