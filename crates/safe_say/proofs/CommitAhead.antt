@@ -1,19 +1,17 @@
 -- A session's writes to come, from pages on which another's records stand that were taken back before.
-use Rattle.std.proofs.Common.{◌≡◌, ◌≢◌, ℕ, zero, suc, ◌+◌, ◌%◌, ◌<◌, ◌≤◌, Bool, true, false, cond, ◌==◌, ◌&&◌, List, [], ◌∷◌, ◌++◌, length, drop, refl, ap, sym, subst, ◌∙◌, inl, inr, arith}
-use Rattle.std.specs.Prelude.{◌⊎◌}
+use Rattle.std.proofs.Common.{◌≡◌, ◌≢◌, ℕ, ◌+◌, ◌%◌, ◌<◌, ◌≤◌, Bool, true, cond, ◌==◌, ◌&&◌, List, [], ◌∷◌, ◌++◌, length, refl, ap, sym, subst, ◌∙◌, inl, inr, arith}
 use Rattle.std.specs.List.{AllByRecursion}
-use Rattle.std.proofs.lemmas.Bool.{cases_Bool, cases_eq}
+use Rattle.std.proofs.lemmas.Bool.{cases_Bool}
 use Rattle.page_base.specs.declared.numbers.PageId.{PageId}
 use Rattle.page_base.specs.Pages.{is_page}
 use Rattle.page_base.specs.Slots.{Slots}
 use Rattle.page_fmt.specs.Spelling.{used}
 use Rattle.alloc_pages.specs.Owners.{owner_bytes, page_owner}
-use Rattle.alloc_pages.specs.Spots.{spot_of}
 use Rattle.alloc_pages.proofs.OwnerLemmas.{page_owner-other}
 use Rattle.rec_log.specs.Records.{Record}
 use Rattle.rec_log.specs.Undone.{undone}
 use Rattle.rec_log.proofs.UndoneLemmas.{undone-with_slot}
-use Rattle.page_tables.specs.Mine.{written, MayWrite, MayWriteAll, IsMine, AreMine, IsClaim, AreSpread}
+use Rattle.page_tables.specs.Mine.{written, MayWrite, MayWriteAll, IsMine, AreMine, AreSpread}
 use Rattle.page_tables.specs.Owners.{is_there}
 use Rattle.page_tables.specs.Sheets.{sheets}
 use Rattle.page_tables.specs.Writes.{Write, done, claim}

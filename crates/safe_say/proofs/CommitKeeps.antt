@@ -1,28 +1,24 @@
 -- A commit leaves to others what it owes them, and shows the rest.
-use Rattle.std.proofs.Common.{◌≡◌, ◌≢◌, ℕ, zero, suc, ◌+◌, ◌<◌, ◌≤◌, Bool, true, false, cond, List, [], ◌∷◌, ◌++◌, length, drop, refl, ap, sym, subst, ◌∙◌, inl, inr, arith}
-use Rattle.std.specs.Prelude.{◌⊎◌, Option, Some, None, IsTrue}
-use Rattle.std.specs.List.{AllByRecursion, Any}
-use Rattle.std.proofs.lemmas.Bool.{cases_Bool, cases_eq}
+use Rattle.std.proofs.Common.{◌≡◌, ◌≢◌, ℕ, true, false, List, [], drop, refl, ap, sym, subst, ◌∙◌, inl, inr}
+use Rattle.std.specs.Prelude.{Option, Some, None, IsTrue}
+use Rattle.std.proofs.lemmas.Bool.{cases_Bool}
 use Rattle.page_base.specs.declared.numbers.Mode.{Mode}
 use Rattle.page_base.specs.declared.numbers.Mode.TheVariants.{X}
-use Rattle.page_base.specs.declared.numbers.PageId.{PageId}
 use Rattle.page_base.specs.declared.numbers.SnapNo.{SnapNo}
 use Rattle.page_base.specs.Slots.{Slots}
 use Rattle.page_dev.specs.Files.{Files}
 use Rattle.page_fmt.specs.Content.{IsPage}
-use Rattle.page_fmt.specs.Seen.{Looked}
-use Rattle.plain_model.specs.declared.event.LockName.{LockName}
 use Rattle.plain_model.specs.declared.event.Event.TheVariants.{Said}
 use Rattle.plain_model.specs.declared.stmt.Stmt.{Stmt}
 use Rattle.plain_model.specs.Legal.{Legal}
-use Rattle.plain_model.specs.State.{Plain, Session, session, committed, see, copy}
+use Rattle.plain_model.specs.State.{Session, session, committed, see, copy}
 use Rattle.plain_model.specs.Tables.{Tables, apply}
 use Rattle.plain_steps.specs.Modes.{mode_in}
 use Rattle.plain_steps.specs.Phases.{first_mode}
 use Rattle.rec_log.specs.Records.{Record}
 use Rattle.rec_log.specs.Undone.{undone}
 use Rattle.snap_pages.specs.Cuts.{place_of}
-use Rattle.snap_pages.specs.Shown.{counts, img}
+use Rattle.snap_pages.specs.Shown.{counts}
 use Rattle.snap_pages.specs.Views.{IsKept, view}
 use Rattle.sys_cat.specs.declared.desc.TableDesc.{TableDesc}
 use Rattle.page_tables.specs.Bases.{IsBase}
@@ -30,14 +26,13 @@ use Rattle.page_tables.specs.Owners.{is_there}
 use Rattle.page_tables.specs.Sheets.{sheets}
 use Rattle.open_work.specs.Open.{all, with_part}
 use Rattle.open_tables.specs.Back.{Back}
-use Rattle.step_words.specs.declared.point.Point.TheVariants.{Take}
 use Rattle.step_words.specs.declared.stage.DbKind.TheVariants.{Source}
-use Rattle.step_words.specs.Courses.{Course, is_planned, is_past_all, is_past_table}
+use Rattle.step_words.specs.Courses.{Course, is_past_all, is_past_table}
 use Rattle.step_words.specs.Seats.{Seated}
 use Rattle.step_state.specs.State.{State, Fixed, IsSession, sess, seat, works, many, machine, slots_at, settled_of, alone_of, before_of}
-use Rattle.step_state.specs.Holding.{is_x, holds_all, writes, lock_at, lock_named}
+use Rattle.step_state.specs.Holding.{is_x, holds_all, writes, lock_at}
 use Rattle.step_state.specs.Own.{IsSafeSession}
-use Rattle.step_state.specs.Told.{AreSeen, SeesSource, GoBack, SpreadBack, AreSized, IsSuccess, IsToldSource, IsToldReading, IsTold, IsToldWhole}
+use Rattle.step_state.specs.Told.{AreSeen, SeesSource, GoBack, SpreadBack, IsSuccess, IsToldSource, IsToldReading, IsTold, IsToldWhole}
 use Rattle.step_state.specs.Safe.{Safe, IsContent}
 use Rattle.step_state.specs.Steps.{Steps, LeavesQuiet, LeavesContent, Quietly, Each}
 use Rattle.step_state.proofs.KeptLemmas.{source_same, reading_kept}
@@ -46,10 +41,10 @@ use Rattle.step_state.proofs.SameLemmas.{mapped_same, copies_same, owing_same, g
 use Rattle.step_state.proofs.StandingLemmas.{none_beside, nothing_beside}
 use Rattle.safe_say.specs.Committing.{seat_after, DoesCommit}
 use Rattle.safe_say.proofs.CommitOthers.{table_past_all, planned_past_table, other_told}
-use Rattle.safe_say.proofs.CommitPages.{works_k, works_else, alone_then, before_then, settled_then, alone_was, before_was, alone_only, before_only, saw_own}
+use Rattle.safe_say.proofs.CommitPages.{alone_then, before_then, settled_then, alone_was, before_was, alone_only, before_only, saw_own}
 use Rattle.safe_say.proofs.CommitShown.{IsShown, is_shown, is_orderly, suffices_some}
-use Rattle.safe_say.proofs.CommitTables.{differ, no_lock_named, no_work}
-use Rattle.safe_say.proofs.CommitWhole.{history, its, now, else, guards, whole_kept, own_kept, restores_same, held_else, held_none}
+use Rattle.safe_say.proofs.CommitTables.{no_lock_named, no_work}
+use Rattle.safe_say.proofs.CommitWhole.{its, now, else, guards, whole_kept, own_kept, restores_same, held_else, held_none}
 
 module _ (e s : State) (k : ℕ) (safe : Safe e) (d : DoesCommit e s k) (ds : List TableDesc) (content : IsContent e ds) where
   abbrev y : Seated

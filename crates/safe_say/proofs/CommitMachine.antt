@@ -1,9 +1,8 @@
 -- What a commit's reply makes of the plain machine.
-use Rattle.std.proofs.Common.{◌≡◌, ◌≢◌, ℕ, zero, suc, ◌+◌, ◌-◌, ◌<◌, ◌≤◌, Bool, true, false, cond, ◌==◌, ◌&&◌, List, [], ◌∷◌, ◌++◌, length, refl, ap, sym, subst, ◌∙◌, inl, inr, arith}
-use Rattle.std.specs.Prelude.{◌⊎◌, Option, Some, None, IsTrue, nat_le, unwrap_or}
+use Rattle.std.proofs.Common.{◌≡◌, ℕ, ◌+◌, ◌-◌, ◌<◌, true, cond, ◌==◌, ◌&&◌, List, [], ◌∷◌, ◌++◌, length, refl, ap, sym, subst, ◌∙◌, arith}
+use Rattle.std.specs.Prelude.{Some, None, IsTrue, nat_le}
 use Rattle.std.proofs.lemmas.Bool.{and_parts, leb-true}
 use Rattle.std.proofs.lemmas.List.{length-set, get_or-set_same}
-use Rattle.page_base.specs.declared.numbers.SessNo.{SessNo}
 use Rattle.plain_model.specs.declared.event.Event.TheVariants.{Said}
 use Rattle.plain_model.specs.declared.reply.Reply.{Reply}
 use Rattle.plain_model.specs.declared.reply.Reply.TheVariants.{Ok, Count, Rows, Msg}
@@ -12,11 +11,11 @@ use Rattle.plain_model.specs.declared.stmt.Stmt.TheVariants.{UseDb, CreateTable,
 use Rattle.plain_model.specs.Effects.{with_session, with_changes, outside, after_commit, effect}
 use Rattle.plain_model.specs.Free.{is_success}
 use Rattle.plain_model.specs.Journal.{Committed}
-use Rattle.plain_model.specs.Keeping.{kept_locks, kept_at}
+use Rattle.plain_model.specs.Keeping.{kept_locks}
 use Rattle.plain_model.specs.Legal.{after, answered, counted, without_restoring}
 use Rattle.plain_model.specs.Meaning.{change_and_reply}
 use Rattle.plain_model.specs.State.{Plain, Session, session, stmt_of, is_session, committed, see, copy, fresh_session}
-use Rattle.plain_model.specs.Tables.{Change, Tables, apply}
+use Rattle.plain_model.specs.Tables.{Change, apply}
 use Rattle.plain_steps.specs.Events.{is_write, source_by, source_after}
 use Rattle.plain_steps.proofs.AfterLemmas.{source_is}
 use Rattle.safe_say.specs.Committing.{IsCommitting, Ends, Writes}

@@ -1,9 +1,9 @@
 -- What others see and plan once a session has committed, where nobody holds all tables.
-use Rattle.std.proofs.Common.{◌≡◌, ◌≢◌, ℕ, zero, suc, ◌+◌, ◌-◌, ◌%◌, ◌<◌, ◌≤◌, Bool, true, false, cond, ◌==◌, ◌&&◌, ◌||◌, List, [], ◌∷◌, ◌++◌, length, drop, get_or, refl, ap, sym, subst, ◌∙◌, inl, inr, arith}
-use Rattle.std.specs.Prelude.{◌⊎◌, Option, Some, None, option_map}
+use Rattle.std.proofs.Common.{◌≡◌, ◌≢◌, ℕ, zero, suc, ◌+◌, ◌%◌, ◌<◌, ◌≤◌, Bool, true, false, ◌==◌, ◌&&◌, ◌||◌, List, [], ◌∷◌, length, drop, get_or, refl, ap, sym, subst, ◌∙◌, inl, inr, arith}
+use Rattle.std.specs.Prelude.{Option, Some, None, option_map}
 use Rattle.std.specs.FinMap as finite
-use Rattle.std.specs.List.{AllByRecursion, Any}
-use Rattle.std.proofs.lemmas.Bool.{cases_Bool, cases_eq}
+use Rattle.std.specs.List.{Any}
+use Rattle.std.proofs.lemmas.Bool.{cases_Bool}
 use Rattle.std.proofs.lemmas.List.{get_or_default}
 use Rattle.page_base.specs.declared.numbers.Mode.{Mode}
 use Rattle.page_base.specs.declared.numbers.Mode.TheVariants.{X}
@@ -12,18 +12,13 @@ use Rattle.page_base.specs.Pages.{is_page}
 use Rattle.page_base.specs.Slots.{Slots}
 use Rattle.page_fmt.specs.Seen.{Looked}
 use Rattle.alloc_pages.specs.Owners.{page_owner}
-use Rattle.alloc_pages.specs.Spots.{spot_of}
-use Rattle.plain_model.specs.declared.event.LockName.{LockName}
-use Rattle.plain_model.specs.declared.reply.Message.{Message}
 use Rattle.plain_model.specs.declared.stmt.Stmt.{Stmt}
 use Rattle.plain_model.specs.Free.{is_success}
-use Rattle.plain_model.specs.Meaning.{shape, change_and_reply}
+use Rattle.plain_model.specs.Meaning.{change_and_reply}
 use Rattle.plain_model.specs.State.{session, committed, see}
 use Rattle.plain_model.specs.Statements.{table_named}
 use Rattle.plain_model.specs.Tables.{Tables, Table as PlainTable, apply}
 use Rattle.plain_steps.specs.Changes.{AreOf}
-use Rattle.plain_steps.specs.Events.{is_write}
-use Rattle.plain_steps.specs.Orderly.{IsOrderly}
 use Rattle.plain_steps.proofs.ApplyLemmas.{outcome_reads, shape_reads}
 use Rattle.rec_log.specs.Records.{Record}
 use Rattle.rec_log.specs.Undone.{undone}
@@ -33,15 +28,14 @@ use Rattle.sys_cat.specs.Lists.{IsDesc}
 use Rattle.page_tables.specs.Bases.{IsBase}
 use Rattle.page_tables.specs.Claims.{Claimable}
 use Rattle.page_tables.specs.Mine.{AreMine, AreSpread, MayWriteAll}
-use Rattle.page_tables.specs.Owners.{is_there}
 use Rattle.page_tables.specs.Sheets.{sheets}
-use Rattle.page_tables.specs.Writes.{Write, done}
+use Rattle.page_tables.specs.Writes.{done}
 use Rattle.page_tables.proofs.CarriedLemmas.{each_desc}
 use Rattle.page_tables.proofs.GoLemmas.{mine_both}
 use Rattle.page_tables.proofs.MineLemmas.{every_spot}
 use Rattle.page_tables.proofs.SheetLemmas.{sheet_same}
 use Rattle.open_work.specs.Open.{all, with_part}
-use Rattle.open_tables.specs.Back.{LiesIn, FitsBack, IsLast, Back}
+use Rattle.open_tables.specs.Back.{LiesIn, Back}
 use Rattle.open_tables.specs.Names.{names, AreClaims}
 use Rattle.open_tables.proofs.BackLemmas.{back_one}
 use Rattle.open_commits.specs.Joins.{Joins}
@@ -58,17 +52,17 @@ use Rattle.step_words.specs.Courses.{Course, is_planned, is_past_all, is_past_ta
 use Rattle.step_words.specs.Coming.{coming, claims_left, edits_left}
 use Rattle.step_words.specs.Sittings.{stmt_at, undoes_all}
 use Rattle.step_state.specs.State.{State, IsSession, seat, works, many, machine, slots_at, alone_of, before_of}
-use Rattle.step_state.specs.Holding.{is_x, holds_all, writes, lock_at, lock_named}
+use Rattle.step_state.specs.Holding.{is_x, holds_all, writes, lock_at}
 use Rattle.step_state.specs.Own.{IsSafeSession}
 use Rattle.stmt_course.specs.Bringing.{AreOnOwn}
 use Rattle.step_state.specs.Plans.{IsPlanned}
-use Rattle.step_state.specs.Told.{AreSeen, SeesSource, GoBack, SpreadBack, AreSized, IsHeld, IsSuccess, IsToldSource}
+use Rattle.step_state.specs.Told.{AreSeen, SeesSource, GoBack, SpreadBack, IsSuccess, IsToldSource}
 use Rattle.step_state.specs.Safe.{Safe, IsContent}
 use Rattle.step_state.proofs.AlongLemmas.{AreAlike, go_along as go_back_along}
 use Rattle.step_state.proofs.StandingLemmas.{nobody_all, none_beside, claims_of, owners_apart, named_apart}
 use Rattle.safe_say.specs.Committing.{DoesCommit}
 use Rattle.safe_say.proofs.CommitAhead.{Stands, claims_mine_from, edits_mine_all, go_along, own_along, done_along}
-use Rattle.safe_say.proofs.CommitPages.{alone_then, before_then, k_behind, j_alone, j_behind, k_saw}
+use Rattle.safe_say.proofs.CommitPages.{k_behind, j_alone, j_behind, k_saw}
 use Rattle.safe_say.proofs.CommitShown.{IsShown, is_shown, is_orderly, HoldsTable, holds_table, changes_own}
 use Rattle.safe_say.proofs.CommitTables.{writes_is, seen_joined, plan_joined}
 

@@ -1,6 +1,5 @@
 -- The pages that others see once a session's records are records no more.
-use Rattle.std.proofs.Common.{◌≡◌, ◌≢◌, ℕ, zero, suc, ◌+◌, ◌<◌, ◌≤◌, Bool, true, false, cond, ◌==◌, List, [], ◌∷◌, ◌++◌, length, drop, refl, ap, sym, subst, ◌∙◌, eq-eqb, inl, inr, arith}
-use Rattle.std.specs.Prelude.{◌⊎◌}
+use Rattle.std.proofs.Common.{◌≡◌, ◌≢◌, ℕ, zero, suc, ◌+◌, true, false, List, [], drop, refl, ap, sym, ◌∙◌, inl, inr}
 use Rattle.std.proofs.lemmas.Bool.{cases_Bool, cases_eq}
 use Rattle.page_base.specs.declared.numbers.PageId.{PageId}
 use Rattle.page_base.specs.Slots.{Slots}
@@ -10,7 +9,7 @@ use Rattle.snap_pages.specs.Slots.{slots_of}
 use Rattle.open_work.specs.Open.{Parts, all, with_part, settled, alone, before}
 use Rattle.open_tables.specs.Names.{names}
 use Rattle.open_commits.proofs.WithinLemmas.{differ}
-use Rattle.open_commits.proofs.ApartLemmas.{own_part, other_part, AreNamedApart, names_drop, taken_out}
+use Rattle.open_commits.proofs.ApartLemmas.{own_part, other_part, AreNamedApart, taken_out}
 use Rattle.step_words.specs.Seats.{Seated}
 use Rattle.step_state.specs.State.{State, IsSession, seat, works, many, slots_at, settled_of, alone_of, before_of}
 use Rattle.step_state.specs.Safe.{Safe}

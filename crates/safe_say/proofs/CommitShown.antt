@@ -1,26 +1,21 @@
 -- What is committed: the pages with the session's open changes alone are the tables that become the source.
-use Rattle.std.proofs.Common.{◌≡◌, ◌≢◌, ℕ, zero, suc, ◌+◌, ◌-◌, ◌<◌, ◌≤◌, Bool, true, false, cond, ◌==◌, List, [], ◌∷◌, ◌++◌, length, drop, map, refl, ap, sym, subst, ◌∙◌, inl, inr, arith}
-use Rattle.std.specs.Prelude.{◌⊎◌, Option, Some, None, slice_get, slice_index_or}
+use Rattle.std.proofs.Common.{◌≡◌, ◌≢◌, ℕ, zero, suc, ◌≤◌, true, false, List, [], ◌∷◌, ◌++◌, length, drop, map, refl, ap, sym, subst, ◌∙◌, inl, inr, arith}
+use Rattle.std.specs.Prelude.{◌⊎◌, Option, Some, None, slice_get}
 use Rattle.std.specs.FinMap as finite
-use Rattle.std.specs.List.{AllByRecursion, Any}
+use Rattle.std.specs.List.{Any}
 use Rattle.std.specs.Str.{bytes_eq}
-use Rattle.std.proofs.lemmas.Bool.{cases_Bool, cases_eq}
+use Rattle.std.proofs.lemmas.Bool.{cases_Bool}
 use Rattle.std.proofs.lemmas.List.{get_or_default}
 use Rattle.page_base.specs.declared.numbers.Mode.{Mode}
 use Rattle.page_base.specs.declared.numbers.Mode.TheVariants.{S, X}
-use Rattle.page_base.specs.declared.numbers.PageId.{PageId}
 use Rattle.page_base.specs.Slots.{Slots}
-use Rattle.plain_model.specs.declared.event.LockName.{LockName}
-use Rattle.plain_model.specs.declared.event.LockName.TheVariants.{All, Table}
-use Rattle.plain_model.specs.declared.event.Event.TheVariants.{Said}
 use Rattle.plain_model.specs.declared.stmt.Stmt.{Stmt}
 use Rattle.plain_model.specs.declared.stmt.Stmt.TheVariants.{UseDb, CreateTable, DropTable, Insert, Select, Update, Delete, BeginTran, Commit as CommitTran, Rollback, LockTimeoutZero, SetLevel, CreateSnap, DropDb, Restore, Broken}
 use Rattle.plain_model.specs.Free.{is_of_tables}
-use Rattle.plain_model.specs.Legal.{after}
 use Rattle.plain_model.specs.Meaning.{change_and_reply}
-use Rattle.plain_model.specs.State.{Plain, session, stmt_of, committed, see}
-use Rattle.plain_model.specs.Statements.{table_named, data_over}
-use Rattle.plain_model.specs.Tables.{Tables, Table as PlainTable, apply}
+use Rattle.plain_model.specs.State.{session, committed, see}
+use Rattle.plain_model.specs.Statements.{table_named}
+use Rattle.plain_model.specs.Tables.{Tables, apply}
 use Rattle.plain_steps.specs.Changes.{AreOf}
 use Rattle.plain_steps.specs.Events.{is_write}
 use Rattle.plain_steps.specs.Modes.{suffices}
@@ -37,21 +32,19 @@ use Rattle.page_tables.specs.Bases.{IsBase}
 use Rattle.page_tables.specs.Claims.{Claimable}
 use Rattle.page_tables.specs.Sheets.{sheets}
 use Rattle.page_tables.specs.Writes.{done}
-use Rattle.open_work.specs.Open.{Parts, all, with_part, before}
-use Rattle.step_words.specs.declared.point.Point.TheVariants.{Commit}
+use Rattle.open_work.specs.Open.{all, with_part}
 use Rattle.step_words.specs.declared.stage.DbKind.TheVariants.{Source}
-use Rattle.step_words.specs.declared.stage.Stage.{Stage}
 use Rattle.step_words.specs.declared.stage.Stage.TheVariants.{End}
-use Rattle.step_words.specs.Courses.{Course, Draft, is_planned, is_past_all, is_past_table}
+use Rattle.step_words.specs.Courses.{Course, is_planned, is_past_all, is_past_table}
 use Rattle.step_words.specs.Coming.{coming, draft_write, taken_at}
 use Rattle.step_words.specs.Sittings.{stmt_at, undoes_all}
 use Rattle.step_words.proofs.TakenLemmas.{none_left}
-use Rattle.step_state.specs.State.{State, IsSession, sess, seat, works, many, machine, slots_at, alone_of, before_of}
+use Rattle.step_state.specs.State.{State, seat, works, many, machine, slots_at, alone_of, before_of}
 use Rattle.step_state.specs.Holding.{is_x, holds_all, lock_at, HasLocks}
 use Rattle.step_state.specs.Posed.{IsOnCourse}
 use Rattle.step_state.specs.Own.{IsSafeSession}
 use Rattle.step_state.specs.Plans.{IsPlanned}
-use Rattle.step_state.specs.Told.{IsToldSource, IsToldWhole}
+use Rattle.step_state.specs.Told.{IsToldSource}
 use Rattle.step_state.specs.Safe.{Safe, IsContent}
 use Rattle.safe_say.specs.Committing.{IsCommitting, Ends, Writes, DoesCommit}
 use Rattle.safe_say.proofs.CommitMachine.{ends_source, writes_source}

@@ -1,13 +1,12 @@
 -- What a commit makes of the tables that another session sees: theirs where they were written, and its own.
-use Rattle.std.proofs.Common.{◌≡◌, ◌≢◌, ℕ, zero, suc, ◌+◌, ◌-◌, ◌<◌, ◌≤◌, Bool, true, false, cond, ◌==◌, ◌&&◌, List, [], ◌∷◌, length, map, get_or, refl, ap, sym, subst, ◌∙◌, inl, inr, arith}
-use Rattle.std.specs.Prelude.{◌⊎◌, not, Option, Some, None, option_map}
+use Rattle.std.proofs.Common.{◌≡◌, ℕ, suc, ◌+◌, ◌-◌, ◌<◌, Bool, true, false, cond, ◌==◌, ◌&&◌, List, [], ◌∷◌, get_or, refl, ap, sym, subst, ◌∙◌, inl, inr, arith}
+use Rattle.std.specs.Prelude.{not, Option, Some, None, option_map}
 use Rattle.std.specs.Option.{option_map_or}
 use Rattle.std.specs.FinMap as finite
 use Rattle.std.specs.List.{AllByRecursion, Any}
 use Rattle.std.specs.Str.{bytes_eq}
 use Rattle.std.proofs.lemmas.Bool.{cases_Bool, cases_eq, ne_eqb}
 use Rattle.std.proofs.lemmas.List.{get_or_default}
-use Rattle.page_base.specs.declared.column.Column.{Column}
 use Rattle.page_base.specs.declared.numbers.Mode.{Mode}
 use Rattle.page_base.specs.declared.numbers.Mode.TheVariants.{S, X}
 use Rattle.plain_model.specs.declared.event.LockName.{LockName}
@@ -16,13 +15,13 @@ use Rattle.plain_model.specs.Tables.{Change, Tables, Table as PlainTable, apply}
 use Rattle.plain_steps.specs.Changes.{named_by, IsOfRow, AreOf}
 use Rattle.plain_steps.specs.Modes.{mode_in}
 use Rattle.plain_steps.specs.Orderly.{IsHeldChange}
-use Rattle.plain_steps.proofs.ApplyLemmas.{cols_at, get_apply, cols_stay, rows_stay}
+use Rattle.plain_steps.proofs.ApplyLemmas.{get_apply, cols_stay, rows_stay}
 use Rattle.plain_steps.proofs.LockLemmas.{same_bytes}
 use Rattle.sys_cat.specs.declared.desc.TableDesc.{TableDesc}
 use Rattle.sys_cat.specs.Lists.{AreDescs, IsDesc}
 use Rattle.page_tables.proofs.CarriedLemmas.{apart_at, names_apart, each_desc}
 use Rattle.open_commits.specs.Joins.{Joins}
-use Rattle.step_state.specs.Holding.{is_x, holds_all, writes, is_of_table, desc_named, lock_named}
+use Rattle.step_state.specs.Holding.{is_x, writes, desc_named, lock_named}
 
 pub differ : {P : Type 0} (b : Bool) → b ≡ true → b ≡ false → P
 differ b t f = absurd (let wrong : true ≡ false = sym t ∙ f in cc)

@@ -1,42 +1,33 @@
 -- What a commit leaves of the whole, and of others, whatever the files tell.
-use Rattle.std.proofs.Common.{◌≡◌, ◌≢◌, ℕ, zero, suc, ◌+◌, ◌-◌, ◌<◌, ◌≤◌, Bool, true, false, cond, ◌==◌, List, [], ◌∷◌, ◌++◌, length, refl, ap, sym, subst, ◌∙◌, inl, inr, arith}
-use Rattle.std.specs.Prelude.{◌⊎◌, Option, Some, None, IsTrue, slice_index_or, unwrap_or}
-use Rattle.std.proofs.lemmas.Bool.{cases_Bool, cases_eq}
-use Rattle.page_base.specs.declared.numbers.Mode.{Mode}
+use Rattle.std.proofs.Common.{◌≡◌, ◌≢◌, ℕ, ◌+◌, ◌-◌, ◌≤◌, Bool, true, false, cond, ◌==◌, List, [], length, refl, ap, sym, subst, ◌∙◌, inl, arith}
+use Rattle.std.specs.Prelude.{Option, Some, None, slice_index_or}
 use Rattle.page_base.specs.declared.numbers.PageId.{PageId}
 use Rattle.page_base.specs.declared.numbers.SessNo.{SessNo}
-use Rattle.page_dev.specs.Files.{Files}
-use Rattle.latch_book.specs.declared.latch.Latch.{Latch}
 use Rattle.latch_book.specs.Latches.{latch_of, IsLatchBook}
-use Rattle.lock_book.specs.Locks.{lock_of, without_locks, IsLockBook}
+use Rattle.lock_book.specs.Locks.{lock_of, IsLockBook}
 use Rattle.lock_book.proofs.LockLemmas.{lock_of-without_locks, lock_of-without_locks_same, IsLockBook-without_locks}
-use Rattle.plain_model.specs.declared.event.Event.{Event}
 use Rattle.plain_model.specs.declared.event.Event.TheVariants.{Said}
 use Rattle.plain_model.specs.Legal.{after, without_restoring}
-use Rattle.plain_model.specs.State.{Plain, Session, session, is_session, copy}
+use Rattle.plain_model.specs.State.{Plain, Session, session}
 use Rattle.plain_steps.proofs.AfterLemmas.{others_are}
-use Rattle.plain_steps.proofs.OrderlyLemmas.{orderly}
-use Rattle.rec_log.specs.Records.{Record}
 use Rattle.snap_cat.specs.Catalog.{Catalog}
 use Rattle.snap_pages.specs.Owed.{count_on}
-use Rattle.snap_pages.specs.Shown.{catalog, counts, img, pins}
-use Rattle.step_words.specs.declared.point.Point.TheVariants.{Start, Commit}
-use Rattle.step_words.specs.Courses.{Course}
-use Rattle.step_words.specs.Seats.{Seated, Free, latch_at, no_seat, seat_in, with_seat}
-use Rattle.step_state.specs.State.{State, Fixed, IsSession, sess, seat, works, machine}
+use Rattle.snap_pages.specs.Shown.{catalog, counts, pins}
+use Rattle.step_words.specs.Seats.{Seated, Free, latch_at, no_seat, seat_in}
+use Rattle.step_state.specs.State.{State, Fixed, sess, seat, works, machine}
 use Rattle.step_state.specs.Holding.{lock_at}
 use Rattle.step_state.specs.Snapshots.{IsBeside, HoldsEx}
 use Rattle.step_state.specs.Posed.{FitsGrip, is_making, IsPosed}
-use Rattle.step_state.specs.Own.{IsSeated, IsInStep, IsAside, IsSafeSession, making_in, is_gone}
-use Rattle.step_state.specs.Whole.{IsWholeSafe, grip_pin, gathered_on, seat_pins, seats_pins, snaps_pins}
+use Rattle.step_state.specs.Own.{IsSeated, IsInStep, IsAside, IsSafeSession, making_in, is_gone, IsPlaced}
+use Rattle.step_state.specs.Whole.{IsWholeSafe, grip_pin, gathered_on, seat_pins, seats_pins}
 use Rattle.step_state.specs.Safe.{Safe}
 use Rattle.step_state.specs.Steps.{Guards}
 use Rattle.step_state.proofs.KeptLemmas.{seated_same}
 use Rattle.step_state.proofs.MachineLemmas.{machine_more}
-use Rattle.step_state.proofs.SameLemmas.{name_same, open_same, leaves_same, whole_same, seat_now, seat_else, seats_many}
+use Rattle.step_state.proofs.SameLemmas.{name_same, leaves_same, whole_same, seat_now, seat_else, seats_many}
 use Rattle.step_state.proofs.SeatLemmas.{seat_pins_moved}
 use Rattle.safe_say.specs.Committing.{seat_after, DoesCommit}
-use Rattle.safe_say.proofs.CommitMachine.{IsCommitted, session_after, committed_is}
+use Rattle.safe_say.proofs.CommitMachine.{IsCommitted, committed_is}
 
 -- a session's pins are among all
 seat_pins_few : (seats : List Seated) (k : ℕ) (p : PageId) → 1 ≤ k → k ≤ length seats → seat_pins (seat_in seats k) p ≤ seats_pins seats p
@@ -190,6 +181,7 @@ module _ (e s : State) (k : ℕ) (safe : Safe e) (d : DoesCommit e s k) where
     seated = subst (λ x. IsSeated (counts s.pages) x (latch_of s.latches (sess k)) (lock_at s k)) (sym now)
         (seated_same (counts e.pages) (counts s.pages) y (latch_of e.latches (sess k)) (latch_of s.latches (sess k)) (lock_at s k) (lock_at s k) d.places.counts (ap (λ ls. latch_of ls (sess k)) d.latches) refl seated_now);
     beside = subst (IsBeside s.pages) (sym now) beside_now;
+    placed = subst (λ (f : Fixed). IsPlaced (seat s k) f.opening.source) (sym d.fixed) (subst (λ x. IsPlaced x e.fixed.opening.source) (sym now) me.placed);
     script = ap (λ (x : Seated). x.sitting.script) now ∙ me.script ∙ ap (λ ss. slice_index_or ss (k - 1) []) (sym its.scripts);
     in_step = subst (λ x. IsInStep s.pages x (session (machine s) k) (machine s).moment) (sym now) in_step_now;
     aside = λ who snap restores. subst (λ (f : Fixed). IsAside (seat s k) (lock_at s k) f.opening.source snap) (sym d.fixed) (subst (λ x. IsAside x (lock_at s k) e.fixed.opening.source snap) (sym now) (aside_now who snap restores));

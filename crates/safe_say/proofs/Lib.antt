@@ -6,3 +6,4 @@ pub mod CommitShown
 pub mod CommitPages
 pub mod CommitOthers
 pub mod CommitKeeps
+pub mod LeaveKeeps

@@ -1,5 +1,5 @@
 -- The step that commits: the session's records are records no more, its locks are freed, and its statement is answered.
-use Rattle.std.specs.Prelude.{ℕ, ◌≡◌, ◌+◌, true, List, [], ◌∷◌, ◌++◌, Some, None}
+use Rattle.std.specs.Prelude.{ℕ, ◌≡◌, ◌+◌, true, [], ◌∷◌, ◌++◌, Some, None}
 use Rattle.plain_model.specs.declared.event.Event.TheVariants.{Said}
 use Rattle.plain_model.specs.declared.reply.Reply.{Reply}
 use Rattle.plain_model.specs.declared.stmt.Stmt.{Stmt}

@@ -3,4 +3,4 @@
 
 mod law;
 
-pub use law::a_commit_keeps_the_engine_safe;
+pub use law::{a_commit_keeps_the_engine_safe, a_leave_keeps_the_engine_safe};

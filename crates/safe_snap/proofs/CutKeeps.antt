@@ -1,5 +1,5 @@
 -- A cut leaves to others what it owes them, and shows the rest.
-use Rattle.std.proofs.Common.{length, ◌≡◌, ◌≢◌, ℕ, ◌+◌, ◌-◌, ◌<◌, ◌≤◌, Bool, true, false, List, [], ◌∷◌, refl, ap, sym, subst, ◌∙◌, inl, inr, arith}
+use Rattle.std.proofs.Common.{length, ◌≡◌, ℕ, ◌-◌, ◌≤◌, true, false, List, [], ◌∷◌, refl, ap, sym, subst, ◌∙◌, inl, inr, arith}
 use Rattle.std.specs.Prelude.{Option, Some, None, slice_index_or, unwrap_or, option_map, is_some, slice_get}
 use Rattle.page_base.specs.declared.numbers.PageId.{PageId}
 use Rattle.page_base.specs.declared.numbers.SnapNo.{SnapNo}
@@ -9,29 +9,26 @@ use Rattle.sparse_set.specs.Sparse.{Sparse}
 use Rattle.snap_cat.specs.Catalog.{Snap, snap_at}
 use Rattle.std.specs.Option.{option_map_or}
 use Rattle.rec_log.specs.Records.{Record}
-use Rattle.snap_pages.specs.Cuts.{place_of, snap_by, is_open_by, owed_by}
+use Rattle.snap_pages.specs.Cuts.{snap_by, is_open_by, owed_by}
 use Rattle.snap_pages.specs.Shown.{catalog, count, counts, set_of}
 use Rattle.plain_model.specs.Coming.{Silent, Cuts}
 use Rattle.plain_model.specs.Next.{next_of}
 use Rattle.plain_model.specs.declared.stmt.Stmt.{Stmt}
 use Rattle.step_words.specs.Sittings.{stmt_at}
-use Rattle.step_words.specs.declared.point.Point.{Point}
-use Rattle.step_words.specs.declared.point.Point.TheVariants.{Say, Start, Cut, Change, Claim, Undo, Commit}
-use Rattle.step_words.specs.declared.stage.DbKind.TheVariants.{Source}
+use Rattle.step_words.specs.declared.point.Point.TheVariants.{Say, Start, Change, Claim, Undo, Commit}
 use Rattle.step_words.specs.Courses.{Course}
 use Rattle.step_words.specs.Seats.{Seated, Free, latch_at}
-use Rattle.step_state.specs.State.{State, Fixed, IsSession, sess, seat, works, machine}
-use Rattle.step_state.specs.Holding.{lock_at, HasLocks}
+use Rattle.step_state.specs.State.{State, Fixed, sess, seat, machine}
+use Rattle.step_state.specs.Holding.{lock_at}
 use Rattle.step_state.specs.Snapshots.{IsBeside, HoldsEx, name_by, page_read}
-use Rattle.step_state.specs.Posed.{FitsGrip, lacks_course, lacks_work, is_making, IsOnCourse, IsPosed}
-use Rattle.step_state.specs.Own.{IsSeated, IsInStep, IsSafeSession, making_in, is_between, is_gone, page_at}
-use Rattle.page_tables.specs.Owners.{is_there}
+use Rattle.step_state.specs.Posed.{FitsGrip, lacks_course, lacks_work, is_making, IsPosed}
+use Rattle.step_state.specs.Own.{IsSeated, IsInStep, IsSafeSession, is_between, is_gone, page_at, IsPlaced}
 use Rattle.step_state.specs.Safe.{Safe}
 use Rattle.step_state.specs.Steps.{Steps, Quietly}
 use Rattle.step_state.proofs.KeptLemmas.{seated_same}
 use Rattle.safe_snap.specs.Cutting.{point_after, seat_after, DoesCut}
 use Rattle.safe_snap.proofs.CutSnaps.{new_snap, next_more, files_same}
-use Rattle.safe_snap.proofs.CutWhole.{history, now, held_same, its_session, guards, whole_kept, name_same, open_same, no_revert}
+use Rattle.safe_snap.proofs.CutWhole.{history, now, held_same, its_session, guards, whole_kept, name_same, no_revert}
 use Rattle.safe_snap.proofs.CutTold.{by_owed, own_told, quiet, whole_told}
 
 module _ (e s : State) (k : ℕ) (safe : Safe e) (d : DoesCut e s k) where
@@ -148,6 +145,7 @@ module _ (e s : State) (k : ℕ) (safe : Safe e) (d : DoesCut e s k) where
     seated = subst (λ x. IsSeated (counts s.pages) x (latch_of s.latches (sess k)) (lock_at s k)) (sym (now e s k safe d))
         (seated_same (counts e.pages) (counts s.pages) y (latch_of e.latches (sess k)) (latch_of s.latches (sess k)) (lock_at e k) (lock_at s k) (files_same e s k safe d) (ap (λ ls. latch_of ls (sess k)) d.latches) (held_same e s k safe d k) seated_now);
     beside = subst (IsBeside s.pages) (sym (now e s k safe d)) beside_now;
+    placed = subst (λ (f : Fixed). IsPlaced (seat s k) f.opening.source) (sym d.fixed) (subst (λ x. IsPlaced x e.fixed.opening.source) (sym (now e s k safe d)) me.placed);
     script = ap (λ (x : Seated). x.sitting.script) (now e s k safe d) ∙ me.script ∙ ap (λ (m : Plain). slice_index_or m.scripts (k - 1) []) (sym (history e s k safe d));
     in_step = subst (λ x. IsInStep s.pages x (session (machine s) k) (machine s).moment) (sym (now e s k safe d)) in_step_now;
     aside = λ who snap restores. absurd (let wrong : None ≡ Some (who, snap) = sym (no_revert e s k safe d) ∙ restores in cc);

@@ -1,10 +1,9 @@
 -- The snapshots after a cut: those that were there, and the new one behind them.
-use Rattle.std.proofs.Common.{◌≡◌, ◌≢◌, ℕ, ◌+◌, ◌<◌, ◌≤◌, List, [], ◌∷◌, ◌++◌, length, get_or, refl, ap, sym, subst, ◌∙◌, inl, inr, arith}
-use Rattle.std.specs.Prelude.{◌⊎◌, Option, Some, None}
+use Rattle.std.proofs.Common.{◌≡◌, ℕ, ◌+◌, ◌<◌, [], ◌∷◌, ◌++◌, length, get_or, ap, sym, subst, ◌∙◌, inl, inr, arith}
+use Rattle.std.specs.Prelude.{◌⊎◌, Some}
 use Rattle.std.proofs.lemmas.Bool.{cases_lt}
 use Rattle.std.proofs.lemmas.List.{length-append, get_or_append_left}
 use Rattle.std.proofs.Math.Seq.{get_or-append_seam}
-use Rattle.page_base.specs.declared.numbers.PageId.{PageId}
 use Rattle.page_base.specs.declared.numbers.SnapNo.{SnapNo}
 use Rattle.page_dev.specs.Files.{Files}
 use Rattle.plain_model.specs.Legal.{new_names}
@@ -14,7 +13,7 @@ use Rattle.snap_cat.specs.declared.snapshot.SnapState.TheVariants.{Making}
 use Rattle.snap_cat.specs.Catalog.{Snap, Catalog, IsCatalog, snap_at, no_snap}
 use Rattle.snap_cat.proofs.CatalogLemmas.{catalog_new}
 use Rattle.snap_pages.specs.Cuts.{place_of, snap_by}
-use Rattle.snap_pages.specs.Shown.{Shown, catalog, count, counts, cut_of, set_of, img, IsOpen, IsWhole}
+use Rattle.snap_pages.specs.Shown.{catalog, count, counts, cut_of, set_of, IsOpen, IsWhole}
 use Rattle.snap_pages.proofs.CutLemmas.{place_some, place_of_cut}
 use Rattle.step_state.specs.State.{State, machine}
 use Rattle.step_state.specs.Safe.{Safe}

@@ -1,8 +1,6 @@
 -- What a cut leaves where the files tell: all see what they saw, and the new snapshot's copy is what was committed.
-use Rattle.std.proofs.Common.{◌≡◌, ◌≢◌, ℕ, zero, suc, ◌+◌, ◌<◌, ◌≤◌, Bool, true, false, cond, List, [], ◌∷◌, ◌++◌, length, get_or, refl, ap, sym, subst, ◌∙◌, inl, inr, arith}
-use Rattle.std.specs.Prelude.{◌⊎◌, Option, Some, None, IsTrue, option_map}
-use Rattle.std.specs.List.{AllByRecursion}
-use Rattle.std.specs.Str.{bytes_eq}
+use Rattle.std.proofs.Common.{◌≡◌, ◌≢◌, ℕ, ◌+◌, Bool, true, false, cond, List, [], ◌∷◌, refl, ap, sym, subst, ◌∙◌, inl, inr, arith}
+use Rattle.std.specs.Prelude.{Option, Some, None, IsTrue, option_map}
 use Rattle.std.proofs.lemmas.Bool.{cases_eq}
 use Rattle.std.proofs.lemmas.List.{get_or_past}
 use Rattle.page_base.specs.declared.numbers.PageId.{PageId}
@@ -11,7 +9,7 @@ use Rattle.page_base.specs.Slots.{Slots}
 use Rattle.page_dev.specs.Files.{Files}
 use Rattle.page_fmt.specs.Content.{IsPage}
 use Rattle.plain_model.specs.declared.event.Event.TheVariants.{CutAt}
-use Rattle.plain_model.specs.Legal.{Legal, after}
+use Rattle.plain_model.specs.Legal.{Legal}
 use Rattle.plain_model.specs.State.{Plain, Session, session, committed, see, copy}
 use Rattle.plain_model.specs.Tables.{Tables, apply}
 use Rattle.plain_steps.proofs.AfterLemmas.{source_is, sights_are, cut_copy}
@@ -19,10 +17,8 @@ use Rattle.plain_steps.proofs.LockLemmas.{bytes_same, other_bytes}
 use Rattle.rec_log.specs.Records.{Record}
 use Rattle.rec_log.specs.Undone.{undone}
 use Rattle.sparse_set.specs.Sparse.{Sparse, is_copied, sparse_page}
-use Rattle.snap_cat.specs.declared.snapshot.SnapState.TheVariants.{Suspect}
 use Rattle.snap_cat.specs.Catalog.{Snap, snap_at, no_snap}
-use Rattle.snap_pages.specs.Cuts.{place_of, snap_by}
-use Rattle.snap_pages.specs.Shown.{Shown, catalog, count, counts, img, set_of, state_of, owes_of, IsOpen}
+use Rattle.snap_pages.specs.Shown.{catalog, count, counts, img, set_of, owes_of, IsOpen}
 use Rattle.snap_pages.specs.Slots.{slots_of}
 use Rattle.snap_pages.specs.Views.{IsKept, view}
 use Rattle.snap_pages.proofs.CutLemmas.{place_some, by_place}
@@ -32,7 +28,7 @@ use Rattle.page_tables.specs.Owners.{is_there}
 use Rattle.page_tables.specs.Sheets.{sheets}
 use Rattle.open_work.specs.Open.{Parts, all, settled, alone, before}
 use Rattle.step_words.specs.declared.point.Point.{Point}
-use Rattle.step_words.specs.declared.point.Point.TheVariants.{Cut, Heal, Say, Take}
+use Rattle.step_words.specs.declared.point.Point.TheVariants.{Heal, Say, Take}
 use Rattle.step_words.specs.Courses.{Course}
 use Rattle.step_words.specs.Sittings.{stmt_at, undoes_all}
 use Rattle.step_words.specs.Seats.{Seated}

@@ -1,43 +1,39 @@
 -- What a cut leaves of the whole, and of others, whatever the files tell.
-use Rattle.std.proofs.Common.{◌≡◌, ◌≢◌, ℕ, zero, suc, ◌+◌, ◌-◌, ◌<◌, ◌≤◌, Bool, true, false, cond, List, [], ◌∷◌, ◌++◌, length, map, get_or, refl, ap, sym, subst, ◌∙◌, inl, inr, arith}
-use Rattle.std.specs.Prelude.{◌⊎◌, Option, Some, None, IsTrue, option_map, is_some, slice_index_or, unwrap_or, nat_le}
+use Rattle.std.proofs.Common.{◌≡◌, ◌≢◌, ℕ, ◌+◌, ◌-◌, ◌<◌, false, List, [], ◌∷◌, ◌++◌, length, map, refl, ap, sym, subst, ◌∙◌, inl, inr, arith}
+use Rattle.std.specs.Prelude.{Option, Some, None, IsTrue, option_map, is_some, unwrap_or, nat_le}
 use Rattle.std.specs.Option.{option_map_or}
-use Rattle.std.proofs.lemmas.Bool.{cases_Bool, cases_eq, and_parts, leb-true}
+use Rattle.std.proofs.lemmas.Bool.{cases_eq, and_parts, leb-true}
 use Rattle.std.proofs.lemmas.List.{get_or-set_same, map-append}
 use Rattle.page_base.specs.declared.numbers.PageId.{PageId}
 use Rattle.page_base.specs.declared.numbers.SnapNo.{SnapNo}
 use Rattle.page_base.specs.Pages.{blank}
-use Rattle.latch_book.specs.declared.latch.Latch.{Latch}
 use Rattle.latch_book.specs.Latches.{latch_of, IsLatchBook}
 use Rattle.lock_book.specs.Locks.{lock_of, IsLockBook}
 use Rattle.plain_model.specs.declared.event.Event.TheVariants.{CutAt}
 use Rattle.plain_model.specs.Legal.{after, new_names}
-use Rattle.plain_model.specs.State.{Plain, Session, Snap as PlainSnap, session, stmt_of, is_session, fresh_session}
+use Rattle.plain_model.specs.State.{Plain, session, stmt_of, is_session, fresh_session, master}
 use Rattle.plain_steps.proofs.AfterLemmas.{others_are}
-use Rattle.rec_log.specs.Records.{Record}
 use Rattle.sparse_set.specs.Sparse.{Sparse, is_copied, sparse_page}
-use Rattle.snap_cat.specs.declared.snapshot.SnapState.{SnapState}
-use Rattle.snap_cat.specs.declared.snapshot.SnapState.TheVariants.{Making, Online, Suspect}
-use Rattle.snap_cat.specs.Catalog.{Snap, Catalog, snap_at}
-use Rattle.snap_pages.specs.Cuts.{place_of, snap_by, is_open_by, marked_by, sparse_by, is_sound_by, owed_by}
+use Rattle.snap_cat.specs.declared.snapshot.SnapState.TheVariants.{Making, Online}
+use Rattle.snap_cat.specs.Catalog.{Snap}
+use Rattle.snap_pages.specs.Cuts.{is_open_by, marked_by, sparse_by, is_sound_by, owed_by}
 use Rattle.snap_pages.specs.Dues.{is_sound}
 use Rattle.snap_pages.specs.Owed.{count_on}
-use Rattle.snap_pages.specs.Shown.{Shown, catalog, count, counts, img, pins, state_of, IsOpen}
+use Rattle.snap_pages.specs.Shown.{catalog, pins, IsOpen}
 use Rattle.snap_pages.specs.Views.{IsKept, view}
-use Rattle.step_words.specs.declared.point.Point.TheVariants.{Cut}
-use Rattle.step_words.specs.Seats.{Seated, Free, seat_in, with_seat}
+use Rattle.step_words.specs.Seats.{Seated, seat_in, with_seat}
 use Rattle.step_state.specs.State.{State, Fixed, IsSession, sess, seat, works, machine}
 use Rattle.step_state.specs.Holding.{lock_at}
-use Rattle.step_state.specs.Snapshots.{HoldsEx, IsKeptBy, name_by, page_read}
-use Rattle.step_state.specs.Posed.{FitsGrip, is_making}
-use Rattle.step_state.specs.Own.{IsSafeSession, IsAside}
+use Rattle.step_state.specs.Snapshots.{IsKeptBy, name_by}
+use Rattle.step_state.specs.Posed.{is_making}
+use Rattle.step_state.specs.Own.{IsSafeSession}
 use Rattle.step_state.specs.Whole.{IsWholeSafe, seat_pins, seats_pins, snaps_pins, snap_told}
 use Rattle.step_state.specs.Safe.{Safe}
 use Rattle.step_state.specs.Steps.{Guards, LeavesSnaps}
 use Rattle.step_state.proofs.MachineLemmas.{machine_more}
 use Rattle.step_state.proofs.SeatLemmas.{seats_long, seat_here, seat_there, seat_pins_moved}
 use Rattle.safe_snap.specs.Cutting.{seat_after, DoesCut}
-use Rattle.safe_snap.proofs.CutSnaps.{next_more, snaps_more, many_more, old_snap, new_snap, old_or_new, files_same, by_cut, place_back, ordered_more, whole_more}
+use Rattle.safe_snap.proofs.CutSnaps.{next_more, snaps_more, old_snap, new_snap, old_or_new, files_same, by_cut, place_back, ordered_more, whole_more}
 
 snaps_pins_more : (ss : List Snap) (x : Snap) (p : PageId) → snaps_pins (ss ++ x ∷ []) p ≡ snaps_pins ss p + count_on x.owed.recs p
 snaps_pins_more [] x p = (let e : count_on x.owed.recs p + 0 ≡ 0 + count_on x.owed.recs p = omega arith in e)
@@ -114,6 +110,7 @@ module _ (e s : State) (k : ℕ) (safe : Safe e) (d : DoesCut e s k) where
     locks = subst IsLockBook (sym d.locks) safe.whole.locks;
     sessions = as_many ∙ safe.whole.sessions ∙ ap (λ (f : Fixed). length f.scripts) (sym d.fixed);
     few = omega (arith, as_many, safe.whole.few);
+    named = subst (λ (f : Fixed). f.opening.source ≢ master) (sym d.fixed) safe.whole.named;
     pinned = pins_due;
     paid = λ n there online. elim (old_or_new e s k safe d n there) [
       | inl old ↦ ap (λ (x : Snap). x.owed.recs) (old_snap e s k safe d n old) ∙ safe.whole.paid n old (sym (ap (λ (x : Snap). x.state) (old_snap e s k safe d n old)) ∙ online)
@@ -121,11 +118,14 @@ module _ (e s : State) (k : ℕ) (safe : Safe e) (d : DoesCut e s k) where
     ];
     makers = λ n there makes. elim (old_or_new e s k safe d n there) [
       | inl old ↦
-          let was = safe.whole.makers n old (sym (ap (λ (x : Snap). x.state) (old_snap e s k safe d n old)) ∙ makes) in
-          (was.0, record { first = was.1.first; last = omega (arith, was.1.last, as_many) }, elim (cases_eq was.0 k) [
-            | inl same ↦ absurd (unmade_yet (sym (ap (λ m. (seat e m).making) same) ∙ was.2))
-            | inr ne ↦ ap (λ (x : Seated). x.making) (else was.0 ne) ∙ was.2 ∙ ap (λ (x : Snap). Some x.cut) (sym (old_snap e s k safe d n old))
-          ])
+          let was = safe.whole.makers n old (sym (ap (λ (x : Snap). x.state) (old_snap e s k safe d n old)) ∙ makes) in (
+            was.0,
+            record { first = was.1.first; last = omega (arith, was.1.last, as_many) },
+            elim (cases_eq was.0 k) [
+              | inl same ↦ absurd (unmade_yet (sym (ap (λ m. (seat e m).making) same) ∙ was.2))
+              | inr ne ↦ ap (λ (x : Seated). x.making) (else was.0 ne) ∙ was.2 ∙ ap (λ (x : Snap). Some x.cut) (sym (old_snap e s k safe d n old))
+            ],
+          )
       | inr here ↦ (k, record { first = d.is.first; last = omega (arith, d.is.last, as_many) }, ap (λ (x : Seated). x.making) now ∙ ap (λ (x : Snap). Some x.cut) (sym (new_snap e s k safe d n here)))
     ];
     snaps = ap (λ (m : Plain). m.snaps) history

@@ -1,29 +1,21 @@
 -- All open records, one session's behind another's, can be taken back from the pages as they stand.
-use Rattle.std.proofs.Common.{◌≡◌, ◌≢◌, ℕ, zero, suc, ◌+◌, ◌%◌, ◌<◌, ◌≤◌, Bool, true, false, cond, ◌==◌, ◌&&◌, ◌||◌, List, [], ◌∷◌, ◌++◌, length, refl, ap, sym, subst, ◌∙◌, eq-eqb, inl, inr, arith}
+use Rattle.std.proofs.Common.{◌≡◌, ◌≢◌, ℕ, zero, suc, ◌%◌, ◌<◌, ◌≤◌, true, false, List, [], ◌∷◌, ◌++◌, refl, ap, sym, subst, ◌∙◌, inl, inr, arith}
 use Rattle.std.specs.Prelude.{◌⊎◌}
 use Rattle.std.proofs.lemmas.Bool.{cases_Bool, cases_eq}
 use Rattle.page_base.specs.declared.numbers.PageId.{PageId}
-use Rattle.page_base.specs.Pages.{is_page}
-use Rattle.page_base.specs.Slots.{Slots, with_slot}
-use Rattle.page_base.proofs.PagesLemmas.{is_page-same}
-use Rattle.page_fmt.specs.Spelling.{used}
+use Rattle.page_base.specs.Slots.{Slots}
 use Rattle.alloc_pages.specs.Owners.{page_owner}
-use Rattle.alloc_pages.specs.Spots.{spot_of}
 use Rattle.rec_log.specs.Records.{Record}
 use Rattle.rec_log.specs.Undone.{undone}
-use Rattle.rec_log.proofs.UndoneLemmas.{undone-append}
 use Rattle.sys_cat.specs.declared.desc.TableDesc.{TableDesc}
-use Rattle.page_tables.specs.Sheets.{sheets}
 use Rattle.page_tables.proofs.MineLemmas.{every_spot}
-use Rattle.page_tables.proofs.SheetLemmas.{sheet_same}
 use Rattle.open_work.specs.Open.{Parts, all, with_part}
-use Rattle.open_tables.specs.Back.{FitsBack}
 use Rattle.open_tables.specs.Names.{names}
-use Rattle.open_commits.proofs.WithinLemmas.{differ, unnamed}
-use Rattle.open_commits.proofs.ApartLemmas.{own_part, other_part, same_from, untouched}
+use Rattle.open_commits.proofs.WithinLemmas.{unnamed}
+use Rattle.open_commits.proofs.ApartLemmas.{own_part, other_part, untouched}
 use Rattle.step_state.specs.State.{State, IsSession, works, many, slots_at, alone_of}
 use Rattle.step_state.specs.Holding.{holds_all, writes, lock_at}
-use Rattle.step_state.specs.Told.{AreSized, GoBack}
+use Rattle.step_state.specs.Told.{GoBack}
 use Rattle.step_state.specs.Safe.{Safe, IsContent}
 use Rattle.step_state.proofs.AlongLemmas.{go_both, go_along, AreAlike}
 use Rattle.step_state.proofs.StandingLemmas.{session_cases, no_records, nothing_beside, named_apart, page_apart, lie}

@@ -1,5 +1,5 @@
 -- The step that cuts a snapshot: it sees the pages as they stand, and owes all records that are open.
-use Rattle.std.specs.Prelude.{ℕ, ◌≡◌, ◌<◌, List, [], ◌∷◌, ◌++◌, Option, Some, None}
+use Rattle.std.specs.Prelude.{ℕ, ◌≡◌, ◌<◌, List, [], ◌∷◌, ◌++◌, Some, None}
 use Rattle.plain_model.specs.declared.event.Event.TheVariants.{CutAt}
 use Rattle.plain_model.specs.Legal.{MayCome, new_names}
 use Rattle.plain_model.specs.State.{stmt_of}

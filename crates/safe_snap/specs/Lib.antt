@@ -1,1 +1,4 @@
 pub mod Cutting
+pub mod Healing
+pub mod Reverting
+pub mod Dropping

@@ -1,50 +1,35 @@
 -- A statement on tables that begins leaves to others what it owes them, and shows the rest.
-use Rattle.std.proofs.Common.{◌≡◌, ◌≢◌, ℕ, ◌+◌, ◌-◌, ◌≤◌, ◌<◌, length, Bool, true, false, cond, List, [], ◌∷◌, ◌++◌, refl, ap, sym, subst, ◌∙◌, inl, inr, arith, map}
-use Rattle.std.specs.Prelude.{◌⊎◌, Option, Some, None, IsTrue, slice_index_or, unwrap_or, option_map}
-use Rattle.std.specs.Option.{option_map_or}
-use Rattle.page_base.specs.Pages.{blank}
-use Rattle.snap_cat.specs.Catalog.{Snap as SnapEntry, snap_at, Catalog}
-use Rattle.std.proofs.lemmas.Bool.{cases_Bool}
+use Rattle.std.proofs.Common.{◌≡◌, ℕ, ◌≤◌, length, true, false, List, ◌++◌, refl, ap, sym, subst, ◌∙◌, inl, inr, arith, map}
+use Rattle.std.specs.Prelude.{◌⊎◌, Option, Some, None, unwrap_or}
 use Rattle.page_base.specs.declared.numbers.PageId.{PageId}
-use Rattle.page_base.specs.declared.numbers.SnapNo.{SnapNo}
-use Rattle.page_base.specs.Pages.{is_page}
-use Rattle.latch_book.specs.declared.latch.LatchMode.{LatchMode}
-use Rattle.latch_book.specs.declared.latch.LatchMode.TheVariants.{Sh, Ex}
 use Rattle.latch_book.specs.Latches.{Latches, latch_of, IsLatchBook}
 use Rattle.plain_model.specs.State.{session, see}
-use Rattle.sparse_set.specs.Sparse.{Sparse, is_copied, sparse_page}
-use Rattle.snap_pages.specs.Owed.{count_on}
 use Rattle.snap_pages.specs.Cuts.{marked_by, sparse_by}
-use Rattle.snap_pages.specs.Shown.{Shown, catalog, counts, pins, img, set_of}
+use Rattle.snap_pages.specs.Shown.{Shown, catalog, counts, pins}
 use Rattle.snap_pages.specs.Views.{view}
-use Rattle.snap_pages.proofs.CutLemmas.{place_some, by_place}
 use Rattle.std.specs.List.{AllByRecursion}
 use Rattle.page_fmt.specs.Content.{content as page_content}
 use Rattle.page_fmt.specs.Seen.{Looked}
 use Rattle.sys_cat.specs.declared.desc.TableDesc.{TableDesc}
 use Rattle.step_words.specs.declared.point.Point.{Point}
-use Rattle.step_words.specs.declared.point.Point.TheVariants.{Start, Lock, Latch, Fetch, Take, Claim, Change, Undo, Commit, Say}
-use Rattle.step_words.specs.declared.stage.DbKind.TheVariants.{Source, Snap}
+use Rattle.step_words.specs.declared.point.Point.TheVariants.{Start, Lock, Latch, Take, Claim, Change, Undo, Commit, Say}
+use Rattle.step_words.specs.declared.stage.DbKind.TheVariants.{Source}
 use Rattle.step_words.specs.Courses.{Course}
 use Rattle.step_words.specs.Sittings.{stmt_at, undoes_all}
-use Rattle.step_words.specs.Seats.{Seated, Grip, Free, Latched, Fetched, latch_at}
-use Rattle.step_state.specs.State.{State, IsSession, sess, seat, machine, alone_of, before_of}
+use Rattle.step_words.specs.Seats.{Seated, Free}
+use Rattle.step_state.specs.State.{State, sess, seat, machine, alone_of, before_of}
 use Rattle.step_state.specs.Holding.{lock_at, HasLocks}
-use Rattle.step_state.specs.Posed.{FitsGrip, lacks_course, lacks_work, is_making, IsNextEdit, IsIn, IsOnCourse, IsPosed}
+use Rattle.step_state.specs.Posed.{FitsGrip, lacks_course, lacks_work, is_making, IsIn, IsOnCourse, IsPosed}
 use Rattle.step_state.specs.Own.{IsSeated, IsInStep, IsAside, IsSafeSession, page_at, is_gone, is_between}
-use Rattle.step_state.specs.Snapshots.{name_by, IsBeside, HoldsEx, IsKeptBy, page_read}
-use Rattle.step_state.specs.Whole.{grip_pin, gathered_on, seat_pins, snap_told}
+use Rattle.step_state.specs.Snapshots.{IsBeside, page_read}
+use Rattle.step_state.specs.Whole.{snap_told}
 use Rattle.step_state.specs.Told.{IsToldSource, IsToldReading, SeesSource, DifferAll}
 use Rattle.step_state.specs.Safe.{Safe, IsContent}
 use Rattle.step_state.specs.Steps.{Steps}
-use Rattle.step_state.specs.Moving.{StaysShown}
 use Rattle.step_state.proofs.MoveLemmas.{stays_put, seat_moves}
-use Rattle.step_state.proofs.ApartLemmas.{marked_on}
-use Rattle.step_state.proofs.SnapLemmas.{sets_stay, snaps_stay}
 use Rattle.safe_visit.specs.Beginning.{BeginsIn, InSource, InSnap, seat_begun, DoesBegin}
-use Rattle.step_state.specs.Going.{first_stage, course_begun, point_at, point_for}
+use Rattle.step_state.specs.Going.{first_stage, course_begun, point_for}
 use Rattle.step_state.proofs.MachineLemmas.{moment_is}
-use Rattle.plain_model.specs.State.{Plain}
 use Rattle.plain_model.specs.declared.stmt.Stmt.{Stmt}
 use Rattle.plain_model.specs.declared.event.LockName.TheVariants.{All}
 use Rattle.plain_steps.specs.Phases.{first_mode}
@@ -53,28 +38,7 @@ use Rattle.page_tables.specs.Owners.{is_there}
 use Rattle.step_words.specs.declared.stage.DbKind.{DbKind}
 use Rattle.step_words.specs.declared.stage.Stage.{Stage}
 use Rattle.step_words.specs.declared.stage.Stage.TheVariants.{AskAll, ScanZero, Claim as Claiming, Edit as Editing, End}
-use Rattle.step_words.specs.Courses.{is_planned, is_past_all, is_past_table}
-
-
--- while somebody reverts to a snapshot there is no other: who is in one is in that
-pub only_snap : (e : State) (k : ℕ) → Safe e → IsSession e k → (who : ℕ) (snap : List ℕ) → (machine e).restoring ≡ Some (who, snap) → (cut : ℕ) → (seat e k).sitting.within ≡ Some cut → (seat e k).sitting.current ≡ snap
-only_snap e k safe is who snap restores cut within =
-    let named = ((safe.sessions k is).beside.named cut within).1 in
-    let only = safe.whole.reverts who snap restores in
-    by_place e.pages cut
-    (λ n at.
-    let place = place_some e.pages cut n at in
-    let first : n ≡ record { 0 = 0 } = (let zero_is : n.0 ≡ 0 = omega (arith, place.there, only.only) in λ i. record { 0 = zero_is i }) in
-    let its : name_by e.pages cut ≡ Some (snap_at (catalog e.pages) n).name = ap (λ (o : Option SnapNo). option_map (λ (f : SnapEntry × Sparse). f.0.name) (option_map (λ (m : SnapNo). (snap_at (catalog e.pages) m, set_of e.pages m)) o)) at in
-    some_name (seat e k).sitting.current snap (sym named ∙ its ∙ ap (λ m. Some (snap_at (catalog e.pages) m).name) first ∙ ap (λ m. Some m) only.named))
-    (λ none. absurd (let wrong : None ≡ Some (seat e k).sitting.current = sym (ap (λ (o : Option SnapNo). option_map (λ (f : SnapEntry × Sparse). f.0.name) (option_map (λ (m : SnapNo). (snap_at (catalog e.pages) m, set_of e.pages m)) o)) none) ∙ named in cc))
-  where
-    some_name : (a b : List ℕ) → Some a ≡ Some b → a ≡ b
-    some_name a b e = ap pick e
-      where
-        pick : Option (List ℕ) → List ℕ
-        pick None = a
-        pick (Some x) = x
+use Rattle.step_words.specs.Courses.{is_planned}
 
 -- whatever holds of where a statement begins: at a lock in the source, at a latch in a snapshot
 by_begins : (P : Stage → Point → Type 0) (e : State) (k : ℕ) (stmt : Stmt) (kind : DbKind) → BeginsIn e k stmt kind
@@ -163,7 +127,7 @@ module _ (e s : State) (k : ℕ) (safe : Safe e) (d : DoesBegin e s k) where
       not_claiming = begins (λ stage point. stage ≡ Claiming → ⊥) (λ q. cc) (λ q. cc)
 
   none_writes : (first_stage d.kind ≡ Claiming) ⊎ (first_stage d.kind ≡ Editing) → ⊥
-  none_writes = begins (λ stage point. (stage ≡ Claiming) ⊎ (stage ≡ Editing) → ⊥) (λ t. elim t [ | inl q ↦ (let wrong : AskAll ≡ Claiming = q in cc) | inr q ↦ (let wrong : AskAll ≡ Editing = q in cc) ]) (λ t. elim t [ | inl q ↦ (let wrong : ScanZero zero_root ≡ Claiming = q in cc) | inr q ↦ (let wrong : ScanZero zero_root ≡ Editing = q in cc) ])
+  none_writes = begins (λ stage point. (stage ≡ Claiming) ⊎ (stage ≡ Editing) → ⊥) (λ t. elim t [ inl q ↦ (let wrong : AskAll ≡ Claiming = q in cc) | inr q ↦ (let wrong : AskAll ≡ Editing = q in cc) ]) (λ t. elim t [ inl q ↦ (let wrong : ScanZero zero_root ≡ Claiming = q in cc) | inr q ↦ (let wrong : ScanZero zero_root ≡ Editing = q in cc) ])
 
   seated_now : IsSeated files_e y (latch_of e.latches (sess k)) (lock_at e k)
   seated_now = record {
@@ -252,7 +216,7 @@ module _ (e s : State) (k : ℕ) (safe : Safe e) (d : DoesBegin e s k) where
 
       by : (kind : DbKind) → BeginsIn e k d.stmt kind → ⊥
       by kind (InSource within current early) = aside.away.0 current
-      by kind (InSnap cut within select sound) = aside.away.1 (only_snap e k safe d.moves.is who snap restores cut within)
+      by kind (InSnap cut within select sound) = (let wrong : None ≡ Some cut = sym aside.away.1 ∙ within in cc)
 
   pub begin_keeps : Steps e s k
   begin_keeps = seat_moves e s k y safe d.moves (stays_put e.pages s.pages d.pages) (ap (λ (v : Shown). map snap_told (catalog v).snaps) d.pages) refl refl refl refl refl
@@ -267,6 +231,7 @@ module _ (e s : State) (k : ℕ) (safe : Safe e) (d : DoesBegin e s k) where
       (record {
         seated = subst (λ (ls : Latches). IsSeated files_e y (latch_of ls (sess k)) (lock_at e k)) (sym d.latches) seated_now;
         beside = subst (λ (v : Shown). IsBeside v y) (sym d.pages) beside_now;
+        placed = me.placed;
         script = refl;
         in_step = in_step_now;
         aside = λ who snap restores. absurd (no_restore who snap restores);

@@ -1,24 +1,19 @@
 -- A latch that is taken leaves to others what it owes them, and shows the rest.
-use Rattle.std.proofs.Common.{◌≡◌, ℕ, ◌+◌, ◌-◌, Bool, true, false, List, [], ◌∷◌, ◌++◌, refl, ap, sym, subst, ◌∙◌, inl, inr, arith, map}
-use Rattle.std.specs.Prelude.{Option, Some, None, option_map, slice_index_or}
-use Rattle.page_base.specs.declared.numbers.Mode.{Mode}
+use Rattle.std.proofs.Common.{◌≡◌, ℕ, ◌+◌, Bool, true, false, List, [], ◌∷◌, ◌++◌, refl, ap, sym, subst, ◌∙◌, inl, inr, arith, map}
+use Rattle.std.specs.Prelude.{Some, None}
 use Rattle.page_base.specs.declared.numbers.PageId.{PageId}
 use Rattle.page_base.specs.declared.numbers.SessNo.{SessNo}
-use Rattle.page_base.specs.declared.numbers.SnapNo.{SnapNo}
 use Rattle.latch_book.specs.declared.latch.LatchMode.{LatchMode}
 use Rattle.latch_book.specs.Latches.{latch_of, with_latch, IsLatchBook}
 use Rattle.latch_book.specs.Latches as latch
 use Rattle.latch_book.proofs.LatchLemmas.{Holds-with_latch, latch_of-with_latch, IsLatchBook-with_latch}
-use Rattle.plain_model.specs.State.{Plain, session, see}
+use Rattle.plain_model.specs.State.{session, see}
 use Rattle.plain_steps.specs.Modes.{suffices}
 use Rattle.plain_steps.specs.Phases.{first_mode}
 use Rattle.rec_log.specs.Records.{Record}
-use Rattle.snap_cat.specs.Catalog.{Snap as SnapEntry, snap_at, Catalog}
-use Rattle.sparse_set.specs.Sparse.{Sparse}
 use Rattle.snap_pages.specs.Owed.{count_on}
 use Rattle.snap_pages.specs.Cuts.{marked_by, sparse_by}
-use Rattle.snap_pages.specs.Shown.{Shown, catalog, counts, pins, set_of}
-use Rattle.snap_pages.proofs.CutLemmas.{place_some, by_place}
+use Rattle.snap_pages.specs.Shown.{Shown, catalog, counts, pins}
 use Rattle.sys_cat.specs.declared.desc.TableDesc.{TableDesc}
 use Rattle.step_words.specs.declared.point.Point.{Point}
 use Rattle.step_words.specs.declared.point.Point.TheVariants.{Start, Latch as Latching, Look, Fetch, Take, Claim, Change, Undo, Heal, Commit, Say}
@@ -32,7 +27,7 @@ use Rattle.step_state.specs.State.{State, sess, seat, machine, alone_of, before_
 use Rattle.step_state.specs.Holding.{lock_at}
 use Rattle.step_state.specs.Posed.{FitsGrip, lacks_course, lacks_work, is_making, IsIn, IsOnCourse, IsPosed}
 use Rattle.step_state.specs.Own.{IsSeated, IsInStep, IsAside, IsSafeSession, page_at, is_gone, is_between}
-use Rattle.step_state.specs.Snapshots.{IsBeside, name_by, page_read}
+use Rattle.step_state.specs.Snapshots.{IsBeside, page_read}
 use Rattle.step_state.specs.Whole.{grip_pin, gathered_on, seat_pins, snap_told}
 use Rattle.step_state.specs.Told.{IsToldSource, IsToldReading}
 use Rattle.step_state.specs.Safe.{Safe, IsContent}
@@ -179,7 +174,7 @@ module _ (e s : State) (k : ℕ) (safe : Safe e) (d : DoesLatch e s k) where
     idle = me.in_step.idle;
     making = me.in_step.making;
     gone = me.in_step.gone ∙ step (λ old new. is_gone old ≡ is_gone new) refl refl refl (λ o. refl) (λ a. refl) refl;
-    rested = λ t. me.in_step.rested (elim t [ | inl b ↦ absurd (step (λ old new. is_between new ≡ true → ⊥) (λ q. cc) (λ q. cc) (λ q. cc) (λ o q. cc) (λ a q. cc) (λ q. cc) b) | inr none ↦ inr none ]);
+    rested = λ t. me.in_step.rested (elim t [ inl b ↦ absurd (step (λ old new. is_between new ≡ true → ⊥) (λ q. cc) (λ q. cc) (λ q. cc) (λ o q. cc) (λ a q. cc) (λ q. cc) b) | inr none ↦ inr none ]);
     begun = λ f. me.in_step.begun (step (λ old new. is_between new ≡ false → is_between old ≡ false) (λ q. refl) (λ q. refl) (λ q. refl) (λ o q. refl) (λ a q. refl) (λ q. refl) f);
   }
 
@@ -190,13 +185,6 @@ module _ (e s : State) (k : ℕ) (safe : Safe e) (d : DoesLatch e s k) where
       let enough = (me.seated.holding c has source).all past in
       (let wrong : false ≡ true = ap (λ o. suffices o (first_mode c.stmt)) (sym (none 0)) ∙ enough in cc)
 
-  some_name : (a b : List ℕ) → Some a ≡ Some b → a ≡ b
-  some_name a b e = ap pick e
-    where
-      pick : Option (List ℕ) → List ℕ
-      pick None = a
-      pick (Some x) = x
-
   no_restore : (who : ℕ) (snap : List ℕ) → (machine e).restoring ≡ Some (who, snap) → ⊥
   no_restore who snap restores = by d.mode d.next d.needs
     where
@@ -204,16 +192,7 @@ module _ (e s : State) (k : ℕ) (safe : Safe e) (d : DoesLatch e s k) where
       aside = me.aside who snap restores
 
       in_snap : (cut : ℕ) → (seat e k).sitting.within ≡ Some cut → ⊥
-      in_snap cut within =
-          let named = (me.beside.named cut within).1 in
-          by_place e.pages cut
-          (λ n at.
-          let place = place_some e.pages cut n at in
-          let only = safe.whole.reverts who snap restores in
-          let first : n ≡ record { 0 = 0 } = (let zero_is : n.0 ≡ 0 = omega (arith, place.there, only.only) in λ i. record { 0 = zero_is i }) in
-          let its : name_by e.pages cut ≡ Some (snap_at (catalog e.pages) n).name = ap (λ (o : Option SnapNo). option_map (λ (f : SnapEntry × Sparse). f.0.name) (option_map (λ (m : SnapNo). (snap_at (catalog e.pages) m, set_of e.pages m)) o)) at in
-          aside.away.1 (some_name (seat e k).sitting.current snap (sym named ∙ its ∙ ap (λ m. Some (snap_at (catalog e.pages) m).name) first ∙ ap (λ m. Some m) only.named)))
-          (λ none. (let wrong : None ≡ Some (seat e k).sitting.current = sym (ap (λ (o : Option SnapNo). option_map (λ (f : SnapEntry × Sparse). f.0.name) (option_map (λ (m : SnapNo). (snap_at (catalog e.pages) m, set_of e.pages m)) o)) none) ∙ named in cc))
+      in_snap cut within = (let wrong : None ≡ Some cut = sym aside.away.1 ∙ within in cc)
 
       by : (mode : LatchMode) (next : Point) → NeedsLatch e.pages (seat e k) d.page mode next → ⊥
       by mode next (VisitsSource c at has source visit) = lock_needed c has source (visits_past c.stage d.page visit) aside.locks
@@ -259,5 +238,5 @@ module _ (e s : State) (k : ℕ) (safe : Safe e) (d : DoesLatch e s k) where
       (λ j ne. ap (λ ls. latch_of ls (sess j)) d.latches ∙ latch_of-with_latch e.latches (sess k) (sess j) d.page d.mode (λ same. ne (ap (λ (w : SessNo). w.0) same)))
       (subst IsLatchBook (sym d.latches) (IsLatchBook-with_latch e.latches (sess k) d.page d.mode safe.whole.latches is_latcher d.granted))
       (λ p. (let same : pins s.pages p ≡ pins e.pages p = ap (λ (v : Shown). pins v p) d.pages in let free : seat_pins (seat e k) p ≡ seat_pins y p = ap (λ (h : Grip). grip_pin h p + (gathered_on (seat e k).gathered p + count_on (seat e k).work.recs p)) d.free in omega (arith, same, free)))
-      (record { seated = seated_now; beside = subst (λ (v : Shown). IsBeside v y) (sym d.pages) beside_now; script = refl; in_step = in_step_now; aside = λ who snap restores. absurd (no_restore who snap restores) })
+      (record { seated = seated_now; beside = subst (λ (v : Shown). IsBeside v y) (sym d.pages) beside_now; placed = me.placed; script = refl; in_step = in_step_now; aside = λ who snap restores. absurd (no_restore who snap restores) })
       (λ ds content. (source_now ds content, reading_now ds content))

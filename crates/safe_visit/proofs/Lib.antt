@@ -4,3 +4,4 @@ pub mod LookKeeps
 pub mod FetchKeeps
 pub mod ReadKeeps
 pub mod PassKeeps
+pub mod LostKeeps

@@ -1,19 +1,17 @@
 -- A look at a snapshot's map leaves to others what it owes them, and shows the rest.
-use Rattle.std.proofs.Common.{◌≡◌, ℕ, ◌-◌, List, [], refl, ap, sym, subst, ◌∙◌, inl, arith, inr, true, false, map}
-use Rattle.std.specs.Prelude.{Option, Some, None, slice_index_or}
-use Rattle.page_base.specs.declared.numbers.Mode.{Mode}
+use Rattle.std.proofs.Common.{◌≡◌, ℕ, List, refl, ap, sym, subst, ◌∙◌, inl, arith, inr, true, false, map}
+use Rattle.std.specs.Prelude.{Option, Some, None}
 use Rattle.page_base.specs.declared.numbers.PageId.{PageId}
 use Rattle.latch_book.specs.declared.latch.Latch.{Latch}
 use Rattle.latch_book.specs.declared.latch.LatchMode.{LatchMode}
 use Rattle.latch_book.specs.declared.latch.LatchMode.TheVariants.{Sh, Ex}
 use Rattle.latch_book.specs.Latches.{Latches, latch_of, IsLatchBook}
 use Rattle.latch_book.proofs.LatchLemmas.{some_latch}
-use Rattle.plain_model.specs.State.{Plain, session, see}
+use Rattle.plain_model.specs.State.{session, see}
 use Rattle.snap_pages.specs.Cuts.{marked_by, sparse_by}
 use Rattle.snap_pages.specs.Shown.{Shown, counts, pins, catalog}
 use Rattle.sys_cat.specs.declared.desc.TableDesc.{TableDesc}
 use Rattle.step_state.specs.Whole.{snap_told}
-use Rattle.snap_cat.specs.Catalog.{Catalog}
 use Rattle.step_words.specs.Courses.{Course}
 use Rattle.step_words.specs.Sittings.{stmt_at, undoes_all}
 use Rattle.step_words.specs.Seats.{Seated, Free, Latched, latch_at}
@@ -134,7 +132,7 @@ module _ (e s : State) (k : ℕ) (safe : Safe e) (d : DoesLook e s k) where
     idle = me.in_step.idle;
     making = me.in_step.making;
     gone = me.in_step.gone ∙ ap is_gone d.at;
-    rested = λ t. me.in_step.rested (elim t [ | inl b ↦ absurd (let wrong : false ≡ true = b in cc) | inr none ↦ inr none ]);
+    rested = λ t. me.in_step.rested (elim t [ inl b ↦ absurd (let wrong : false ≡ true = b in cc) | inr none ↦ inr none ]);
     begun = λ f. me.in_step.begun (ap is_between d.at);
   }
 
@@ -173,6 +171,7 @@ module _ (e s : State) (k : ℕ) (safe : Safe e) (d : DoesLook e s k) where
       (record {
         seated = subst (λ (ls : Latches). IsSeated files_e y (latch_of ls (sess k)) (lock_at e k)) (sym d.latches) seated_now;
         beside = subst (λ (v : Shown). IsBeside v y) (sym d.pages) beside_now;
+        placed = me.placed;
         script = refl;
         in_step = in_step_now;
         aside = λ who snap restores. (let old = me.aside who snap restores in absurd (let wrong : Latched d.page Sh ≡ Free = sym hold ∙ old.latch in cc));

@@ -1,38 +1,30 @@
 -- An allocation page that is passed leaves to others what it owes them, and shows the rest.
-use Rattle.std.proofs.Common.{◌≡◌, ◌≢◌, ℕ, ◌+◌, ◌-◌, Bool, true, false, cond, List, [], ◌∷◌, ◌++◌, refl, ap, sym, subst, ◌∙◌, inl, inr, arith, map}
-use Rattle.std.specs.Prelude.{◌⊎◌, Option, Some, None, IsTrue, slice_index_or}
+use Rattle.std.proofs.Common.{◌≡◌, ℕ, ◌+◌, ◌-◌, cond, List, refl, ap, sym, subst, ◌∙◌, inl, inr, arith, map}
+use Rattle.std.specs.Prelude.{Some, None}
 use Rattle.std.specs.Option.{option_map_or}
 use Rattle.page_base.specs.Pages.{blank}
 use Rattle.snap_cat.specs.Catalog.{Snap as SnapEntry, Catalog}
 use Rattle.std.proofs.lemmas.Bool.{cases_Bool}
 use Rattle.page_base.specs.declared.numbers.PageId.{PageId}
-use Rattle.page_base.specs.declared.numbers.SnapNo.{SnapNo}
 use Rattle.page_base.specs.Pages.{is_page}
-use Rattle.latch_book.specs.declared.latch.LatchMode.{LatchMode}
-use Rattle.latch_book.specs.declared.latch.LatchMode.TheVariants.{Sh, Ex}
+use Rattle.latch_book.specs.declared.latch.LatchMode.TheVariants.{Ex}
 use Rattle.latch_book.specs.Latches.{Latches, latch_of, without_latch, IsLatchBook}
 use Rattle.latch_book.specs.Latches as latch
 use Rattle.latch_book.proofs.LatchLemmas.{latch_of-without_latch, latch_of-without_latch_same, IsLatchBook-without_latch}
 use Rattle.page_base.specs.declared.numbers.SessNo.{SessNo}
-use Rattle.buf_pool.specs.Steps.{SameShown}
 use Rattle.page_dev.specs.Files.{Files}
 use Rattle.plain_model.specs.State.{session, see}
 use Rattle.sparse_set.specs.Sparse.{Sparse, is_copied, sparse_page}
 use Rattle.snap_pages.specs.Owed.{count_on}
 use Rattle.snap_pages.specs.Cuts.{marked_by, sparse_by}
-use Rattle.snap_pages.specs.Shown.{Shown, counts, pins, img, set_of, catalog}
+use Rattle.snap_pages.specs.Shown.{counts, pins}
 use Rattle.sys_cat.specs.declared.desc.TableDesc.{TableDesc}
-use Rattle.step_words.specs.declared.point.Point.{Point}
-use Rattle.step_words.specs.declared.point.Point.TheVariants.{Start, Fetch, Take, Claim, Change, Undo, Commit, Say}
-use Rattle.step_words.specs.declared.stage.DbKind.TheVariants.{Source}
-use Rattle.step_words.specs.Courses.{Course}
-use Rattle.step_words.specs.Sittings.{stmt_at, undoes_all}
-use Rattle.step_words.specs.Seats.{Seated, Grip, Free, Latched, Fetched, latch_at}
+use Rattle.step_words.specs.Seats.{Seated, Grip, Free, Fetched}
 use Rattle.step_state.specs.State.{State, sess, seat, machine, alone_of, before_of}
 use Rattle.step_state.specs.Holding.{lock_at}
-use Rattle.step_state.specs.Posed.{FitsGrip, lacks_course, lacks_work, is_making, IsNextEdit, IsIn, IsPosed}
-use Rattle.step_state.specs.Own.{IsSeated, IsInStep, IsAside, IsSafeSession, page_at, is_gone, is_between}
-use Rattle.step_state.specs.Snapshots.{IsBeside, HoldsEx, IsKeptBy, page_read}
+use Rattle.step_state.specs.Posed.{FitsGrip, IsPosed}
+use Rattle.step_state.specs.Own.{IsSeated, IsInStep, IsSafeSession}
+use Rattle.step_state.specs.Snapshots.{IsBeside}
 use Rattle.step_state.specs.Whole.{grip_pin, gathered_on, seat_pins, snap_told}
 use Rattle.step_state.specs.Told.{IsToldSource, IsToldReading}
 use Rattle.step_state.specs.Safe.{Safe, IsContent}
@@ -153,6 +145,7 @@ module _ (e s : State) (k : ℕ) (safe : Safe e) (d : DoesPass e s k) where
       (record {
         seated = subst (λ l. IsSeated files_e y l (lock_at e k)) (sym latch_gone) seated_now;
         beside = beside_stays e.pages s.pages stays y (λ c p within at. map_same c p) (λ c p copied hold. map_same c p) (λ c p copied hold kept. file_same c p) beside_before;
+        placed = me.placed;
         script = refl;
         in_step = in_step_now;
         aside = λ who snap restores. (let old = me.aside who snap restores in absurd (let wrong : Fetched d.page Ex ≡ Free = sym d.hold ∙ old.latch in cc));

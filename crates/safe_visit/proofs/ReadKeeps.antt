@@ -1,46 +1,35 @@
 -- A snapshot's own copy that is read leaves to others what it owes them, and shows the rest.
-use Rattle.std.proofs.Common.{◌≡◌, ◌≢◌, ℕ, ◌+◌, ◌-◌, Bool, true, false, cond, List, [], ◌∷◌, ◌++◌, refl, ap, sym, subst, ◌∙◌, inl, inr, arith, map}
-use Rattle.std.specs.Prelude.{◌⊎◌, Option, Some, None, IsTrue, slice_index_or}
-use Rattle.std.specs.Option.{option_map_or}
-use Rattle.page_base.specs.Pages.{blank}
-use Rattle.snap_cat.specs.Catalog.{Snap as SnapEntry, Catalog}
-use Rattle.std.proofs.lemmas.Bool.{cases_Bool}
+use Rattle.std.proofs.Common.{◌≡◌, ℕ, Bool, true, false, List, refl, ap, sym, subst, ◌∙◌, inl, inr, arith, map}
+use Rattle.std.specs.Prelude.{Option, Some, None, IsTrue}
+use Rattle.snap_cat.specs.Catalog.{Catalog}
 use Rattle.page_base.specs.declared.numbers.PageId.{PageId}
 use Rattle.page_base.specs.declared.numbers.SnapNo.{SnapNo}
-use Rattle.page_base.specs.Pages.{is_page}
-use Rattle.latch_book.specs.declared.latch.LatchMode.{LatchMode}
-use Rattle.latch_book.specs.declared.latch.LatchMode.TheVariants.{Sh, Ex}
+use Rattle.latch_book.specs.declared.latch.LatchMode.TheVariants.{Sh}
 use Rattle.latch_book.specs.Latches.{Latches, latch_of, IsLatchBook}
 use Rattle.plain_model.specs.State.{session, see}
 use Rattle.sparse_set.specs.Sparse.{Sparse, is_copied, sparse_page}
-use Rattle.snap_pages.specs.Owed.{count_on}
 use Rattle.snap_pages.specs.Cuts.{place_of, marked_by, sparse_by}
 use Rattle.snap_pages.specs.Views.{IsKept, view}
 use Rattle.page_base.specs.Pages.{Pages, image_at, page_or}
-use Rattle.page_dev.specs.Files.{Files}
 use Rattle.buf_pool.specs.Pool.{Pooled, pins as pool_pins}
-use Rattle.page_tables.specs.Owners.{is_there}
-use Rattle.snap_pages.specs.Shown.{Shown, counts, pins, img, set_of, catalog}
+use Rattle.snap_pages.specs.Shown.{counts, pins, set_of}
 use Rattle.sys_cat.specs.declared.desc.TableDesc.{TableDesc}
 use Rattle.step_words.specs.declared.point.Point.{Point}
-use Rattle.step_words.specs.declared.point.Point.TheVariants.{Start, Fetch, Take, Claim, Change, Undo, Commit, Say}
-use Rattle.step_words.specs.declared.stage.DbKind.TheVariants.{Source}
-use Rattle.step_words.specs.Courses.{Course}
+use Rattle.step_words.specs.declared.point.Point.TheVariants.{Take}
 use Rattle.step_words.specs.Sittings.{stmt_at, undoes_all}
-use Rattle.step_words.specs.Seats.{Seated, Grip, Free, Latched, Fetched, latch_at}
+use Rattle.step_words.specs.Seats.{Seated, Free, Latched}
 use Rattle.step_state.specs.State.{State, sess, seat, machine, alone_of, before_of}
 use Rattle.step_state.specs.Holding.{lock_at}
-use Rattle.step_state.specs.Posed.{FitsGrip, lacks_course, lacks_work, is_making, IsNextEdit, IsIn, IsPosed}
-use Rattle.step_state.specs.Own.{IsSeated, IsInStep, IsAside, IsSafeSession, page_at, is_gone, is_between}
-use Rattle.step_state.specs.Snapshots.{IsBeside, HoldsEx, IsKeptBy, page_read}
-use Rattle.step_state.specs.Whole.{grip_pin, gathered_on, seat_pins, snap_told}
+use Rattle.step_state.specs.Posed.{FitsGrip, is_making, IsPosed}
+use Rattle.step_state.specs.Own.{IsSeated, IsInStep, IsSafeSession, page_at, is_gone, is_between}
+use Rattle.step_state.specs.Snapshots.{IsBeside, IsKeptBy, page_read}
+use Rattle.step_state.specs.Whole.{snap_told}
 use Rattle.step_state.specs.Told.{IsToldSource, IsToldReading}
 use Rattle.step_state.specs.Safe.{Safe, IsContent}
 use Rattle.step_state.specs.Steps.{Steps}
 use Rattle.step_state.specs.Moving.{StaysShown}
 use Rattle.step_state.proofs.MoveLemmas.{beside_stays, on_moved, source_moved, seat_moves}
 use Rattle.step_state.proofs.ApartLemmas.{by_place_no, marked_on, sparse_at, stays_set}
-use Rattle.step_state.proofs.SnapLemmas.{sets_stay, snaps_stay}
 use Rattle.safe_visit.specs.Fetching.{wants_rows, seat_read, DoesReadCopy}
 
 some_is : {T : Type 0} (a b : T) → Some a ≡ Some b → a ≡ b
@@ -131,7 +120,7 @@ module _ (e s : State) (k : ℕ) (safe : Safe e) (d : DoesReadCopy e s k) where
     idle = me.in_step.idle;
     making = me.in_step.making;
     gone = me.in_step.gone ∙ ap is_gone d.at;
-    rested = λ t. me.in_step.rested (elim t [ | inl b ↦ absurd (let wrong : false ≡ true = b in cc) | inr none ↦ inr none ]);
+    rested = λ t. me.in_step.rested (elim t [ inl b ↦ absurd (let wrong : false ≡ true = b in cc) | inr none ↦ inr none ]);
     begun = λ f. me.in_step.begun (ap is_between d.at);
   }
 
@@ -169,6 +158,7 @@ module _ (e s : State) (k : ℕ) (safe : Safe e) (d : DoesReadCopy e s k) where
       (record {
         seated = subst (λ (ls : Latches). IsSeated files_e y (latch_of ls (sess k)) (lock_at e k)) (sym d.latches) seated_now;
         beside = beside_stays e.pages s.pages stays y (λ c p within at. map_same c p) (λ c p copied hold. map_same c p) (λ c p copied hold kept. file_same c p kept) beside_before;
+        placed = me.placed;
         script = refl;
         in_step = in_step_now;
         aside = λ who snap restores. (let old = me.aside who snap restores in absurd (let wrong : Latched d.page Sh ≡ Free = sym d.hold ∙ old.latch in cc));

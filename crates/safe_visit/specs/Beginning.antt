@@ -1,5 +1,5 @@
 -- The step that begins a statement on tables.
-use Rattle.std.specs.Prelude.{ℕ, ◌≡◌, true, false, length, Option, Some, None}
+use Rattle.std.specs.Prelude.{ℕ, ◌≡◌, true, false, length, Some, None}
 use Rattle.page_tables.specs.Owners.{is_there}
 use Rattle.plain_model.specs.declared.stmt.Stmt.{Stmt}
 use Rattle.plain_model.specs.Free.{is_of_tables}

@@ -1,5 +1,5 @@
 -- The step that takes the latch which a session needs next.
-use Rattle.std.specs.Prelude.{ℕ, ◌≡◌, ◌%◌, Bool, true, false, List, [], ◌∷◌, ◌++◌, Option, Some, None}
+use Rattle.std.specs.Prelude.{ℕ, ◌≡◌, ◌%◌, Bool, true, false, List, [], ◌∷◌, ◌++◌, Some}
 use Rattle.page_base.specs.declared.numbers.PageId.{PageId}
 use Rattle.latch_book.specs.declared.latch.LatchMode.{LatchMode}
 use Rattle.latch_book.specs.declared.latch.LatchMode.TheVariants.{Sh, Ex}
@@ -10,19 +10,12 @@ use Rattle.snap_pages.specs.Shown.{Shown}
 use Rattle.step_words.specs.declared.point.Point.{Point}
 use Rattle.step_words.specs.declared.point.Point.TheVariants.{Latch, Look, Fetch, Claim, Undo, Heal}
 use Rattle.step_words.specs.declared.stage.DbKind.TheVariants.{Source, Snap}
-use Rattle.step_words.specs.declared.stage.Stage.{Stage}
-use Rattle.step_words.specs.declared.stage.Stage.TheVariants.{ScanZero, Scan}
 use Rattle.step_words.specs.Courses.{Course}
 use Rattle.step_words.specs.Seats.{Seated, Free, Latched}
 use Rattle.step_state.specs.State.{State, sess, seat}
 use Rattle.step_state.specs.Posed.{IsNextEdit}
+pub use Rattle.step_state.specs.Going.{page_visited}
 use Rattle.step_state.specs.Moving.{MovesSeat}
-
--- the page that a course reads next
-abbrev pub page_visited : Stage → Option PageId
-page_visited (ScanZero page) = Some page
-page_visited (Scan page rows) = Some page
-page_visited stage = None
 
 -- the page of the last of these records
 pub record IsLastPage (records : List Record) (p : PageId) : Type 0 where

@@ -1,5 +1,9 @@
 pub mod Beginning
+pub mod Locking
 pub mod Latching
 pub mod Looking
 pub mod Fetching
+pub mod Taking
+pub mod Planning
 pub mod Passing
+pub mod Flushing

@@ -7,7 +7,7 @@ ghost use Rattle.step_state.specs.Steps.{Steps};
 ghost use Rattle.safe_visit.specs.Latching.{DoesLatch};
 ghost use Rattle.safe_visit.specs.Looking.{DoesLook};
 ghost use Rattle.safe_visit.specs.Passing.{DoesPass};
-ghost use Rattle.safe_visit.specs.Fetching.{DoesFetch, DoesReadCopy};
+ghost use Rattle.safe_visit.specs.Fetching.{DoesFetch, DoesReadCopy, DoesLoseRead};
 ghost use Rattle.safe_visit.specs.Beginning.{DoesBegin};
 
 /// A latch that is taken where none is in the way, whatever it is needed for, leaves to others what it owes them; so the engine
@@ -45,4 +45,10 @@ pub fn a_copy_read_keeps_the_engine_safe()
 pub fn a_beginning_keeps_the_engine_safe()
     ensures steps { (e s : State) (k : ℕ) → Safe e → DoesBegin e s k → Steps e s k }
     ensures safe { (e s : State) (k : ℕ) → Safe e → DoesBegin e s k → Safe s }
+{}
+
+/// And so does a copy that can't be read: its snapshot is suspect then, which is what the session answers.
+pub fn a_lost_read_keeps_the_engine_safe()
+    ensures steps { (e s : State) (k : ℕ) → Safe e → DoesLoseRead e s k → Steps e s k }
+    ensures safe { (e s : State) (k : ℕ) → Safe e → DoesLoseRead e s k → Safe s }
 {}

@@ -53,12 +53,13 @@ module _ (e s : State) (k : ℕ) (safe : Safe e) (d : DoesBack e s k) where
   own_kept : IsSafeSession s k
   own_kept = session_now e s k d.last.page y safe d.sets (lock_there e s k safe d)
       (seated_back (counts e.pages) (seat e k) (latch_of e.latches (sess k)) (lock_at e k) me.seated d.all d.at d.last d.records d.were d.sets.unmarked (lock_there e s k safe d))
+      me.placed
       refl
       (beside_now e s k d.last.page y safe d.sets unread refl (me.seated.posed.makes (ap is_making d.at)) refl refl refl)
       (in_step_now e s k d.last.page y safe d.sets refl refl refl refl refl refl (ap is_gone d.at)
       (by_back (counts e.pages) (seat e k) (latch_of e.latches (sess k)) (lock_at e k) me.seated d.all d.at d.last d.records d.were d.sets.unmarked (λ t. is_gone t ≡ false) (λ ne. refl) (λ same none. refl) (λ stmt same is. refl))
       (ap is_between d.at)
-      (λ t. elim t [ | inl q ↦ by_back (counts e.pages) (seat e k) (latch_of e.latches (sess k)) (lock_at e k) me.seated d.all d.at d.last d.records d.were d.sets.unmarked (λ t. is_between t ≡ true → stmt_at (seat e k).sitting ≡ None) (λ ne q. cc) (λ same none q. none) (λ stmt same is q. cc) q | inr none ↦ none ]))
+      (λ t. elim t [ inl q ↦ by_back (counts e.pages) (seat e k) (latch_of e.latches (sess k)) (lock_at e k) me.seated d.all d.at d.last d.records d.were d.sets.unmarked (λ t. is_between t ≡ true → stmt_at (seat e k).sitting ≡ None) (λ ne q. cc) (λ same none q. none) (λ stmt same is q. cc) q | inr none ↦ none ]))
 
   pub back_keeps : Steps e s k
   back_keeps = record {

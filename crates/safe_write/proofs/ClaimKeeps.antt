@@ -53,10 +53,11 @@ module _ (e s : State) (k : ℕ) (safe : Safe e) (d : DoesClaim e s k) where
   own_kept : IsSafeSession s k
   own_kept = session_now e s k d.page y safe d.sets (lock_there e s k safe d)
       (seated_then (counts e.pages) (seat e k) (latch_of e.latches (sess k)) (lock_at e k) me.seated d.number d.at d.course d.has d.numbers d.next d.target d.may_be_named d.there its_record record_is d.sets.unmarked (lock_there e s k safe d))
+      me.placed
       refl
       (beside_now e s k d.page y safe d.sets unread refl (me.seated.posed.makes (ap is_making d.at)) refl refl refl)
       (in_step_now e s k d.page y safe d.sets refl refl refl refl refl refl (ap is_gone d.at) (at_then (counts e.pages) (seat e k) (latch_of e.latches (sess k)) (lock_at e k) me.seated d.number d.at d.course d.has d.numbers d.next d.target d.may_be_named d.there its_record record_is d.sets.unmarked (λ t. is_gone t ≡ false) refl refl (λ f later none is. refl) (λ n ns is. refl)) (ap is_between d.at)
-      (λ t. elim t [ | inl b ↦ absurd (at_then (counts e.pages) (seat e k) (latch_of e.latches (sess k)) (lock_at e k) me.seated d.number d.at d.course d.has d.numbers d.next d.target d.may_be_named d.there its_record record_is d.sets.unmarked (λ t. is_between t ≡ true → ⊥) (λ q. cc) (λ q. cc) (λ f later none is q. cc) (λ n ns is q. cc) b) | inr none ↦ none ]))
+      (λ t. elim t [ inl b ↦ absurd (at_then (counts e.pages) (seat e k) (latch_of e.latches (sess k)) (lock_at e k) me.seated d.number d.at d.course d.has d.numbers d.next d.target d.may_be_named d.there its_record record_is d.sets.unmarked (λ t. is_between t ≡ true → ⊥) (λ q. cc) (λ q. cc) (λ f later none is q. cc) (λ n ns is q. cc) b) | inr none ↦ none ]))
 
   pub claim_keeps : Steps e s k
   claim_keeps = record {

@@ -1,35 +1,31 @@
 -- A copy and a mark leave to others what they owe them, and show the rest.
-use Rattle.std.proofs.Common.{◌≡◌, ◌≢◌, ℕ, Bool, true, false, cond, List, [], length, refl, ap, sym, subst, ◌∙◌, inl, inr, arith, map}
-use Rattle.std.specs.Prelude.{◌⊎◌, Option, Some, None, IsTrue, is_some}
+use Rattle.std.proofs.Common.{◌≡◌, ◌≢◌, ℕ, Bool, true, false, List, refl, ap, sym, subst, ◌∙◌, inl, inr, arith, map}
+use Rattle.std.specs.Prelude.{Option, Some, None, IsTrue}
 use Rattle.page_base.specs.declared.numbers.Mode.{Mode}
 use Rattle.page_base.specs.declared.numbers.PageId.{PageId}
 use Rattle.page_base.specs.declared.numbers.SnapNo.{SnapNo}
-use Rattle.page_base.specs.Pages.{Pages, blank, image_at, page_or, with_page}
+use Rattle.page_base.specs.Pages.{Pages, blank, image_at, page_or}
 use Rattle.page_base.proofs.PagesLemmas.{page_or-with_page_other, cases_page}
-use Rattle.buf_pool.specs.Pool.{Pooled, img as pool_img, pins as pool_pins}
+use Rattle.buf_pool.specs.Pool.{Pooled, pins as pool_pins}
 use Rattle.latch_book.specs.declared.latch.Latch.{Latch}
 use Rattle.latch_book.specs.declared.latch.LatchMode.TheVariants.{Ex}
 use Rattle.latch_book.specs.Latches.{Latches, latch_of, IsLatchBook}
 use Rattle.latch_book.proofs.LatchLemmas.{some_latch}
 use Rattle.plain_model.specs.State.{session, see}
 use Rattle.sparse_set.specs.Sparse.{Sparse, is_copied, sparse_page, marked}
-use Rattle.snap_cat.specs.Catalog.{Snap as SnapEntry, Catalog}
-use Rattle.snap_pages.specs.Cuts.{place_of, marked_by, sparse_by, is_sound_by}
+use Rattle.snap_cat.specs.Catalog.{Catalog}
+use Rattle.snap_pages.specs.Cuts.{place_of, marked_by, sparse_by}
 use Rattle.snap_pages.specs.Shown.{Shown, catalog, counts, pins, img, set_of, cut_of}
-use Rattle.snap_pages.specs.Steps.{ChangesSet, SamePlaces}
-use Rattle.snap_pages.specs.Views.{IsKept, KeepsViews}
+use Rattle.snap_pages.specs.Views.{IsKept}
 use Rattle.snap_pages.proofs.CutLemmas.{place_of_cut}
 use Rattle.sys_cat.specs.declared.desc.TableDesc.{TableDesc}
 use Rattle.page_tables.specs.Owners.{is_there}
 use Rattle.step_state.specs.Whole.{snap_told}
-use Rattle.step_words.specs.declared.point.Point.{Point}
-use Rattle.step_words.specs.declared.point.Point.TheVariants.{Change, Claim, Undo, Heal}
-use Rattle.step_words.specs.Courses.{Course}
-use Rattle.step_words.specs.Seats.{Seated, Grip, Free, Latched, Fetched, latch_at}
+use Rattle.step_words.specs.Seats.{Seated, Free, Latched, Fetched, latch_at}
 use Rattle.step_state.specs.State.{State, IsSession, sess, seat, machine, alone_of, before_of}
 use Rattle.step_state.specs.Holding.{lock_at}
 use Rattle.step_state.specs.Posed.{IsPosed}
-use Rattle.step_state.specs.Own.{IsSeated, IsInStep, IsAside, IsSafeSession}
+use Rattle.step_state.specs.Own.{IsSeated, IsInStep, IsSafeSession}
 use Rattle.step_state.specs.Snapshots.{IsBeside, HoldsEx, IsKeptBy, page_read}
 use Rattle.step_state.specs.Told.{IsToldSource, IsToldReading}
 use Rattle.step_state.specs.Safe.{Safe, IsContent}
@@ -206,6 +202,7 @@ module _ (e s : State) (k : ℕ) (safe : Safe e) (d : DoesCopy e s k) where
         seated = subst (λ (ls : Latches). IsSeated (counts e.pages) y (latch_of ls (sess k)) (lock_at e k)) (sym d.latches)
             (seated_copied (counts e.pages) (seat e k) (latch_of e.latches (sess k)) (lock_at e k) (Some (cut_of e.pages d.place)) (pushes_held (seat e k) d.page d.pushes) me.seated);
         beside = beside_now;
+        placed = me.placed;
         script = refl;
         in_step = in_step_copied e s k safe (Some (cut_of e.pages d.place)) d.moves.is;
         aside = λ who snap restores. absurd (pushes_held (seat e k) d.page d.pushes (me.aside who snap restores).latch);
@@ -286,6 +283,7 @@ module _ (e s : State) (k : ℕ) (safe : Safe e) (d : DoesMark e s k) where
         seated = subst (λ (ls : Latches). IsSeated (counts e.pages) w (latch_of ls (sess k)) (lock_at e k)) (sym d.latches)
             (seated_copied (counts e.pages) (seat e k) (latch_of e.latches (sess k)) (lock_at e k) None (pushes_held (seat e k) d.page d.pushes) us.seated);
         beside = beside_stays e.pages s.pages shown_stays w (λ c p within at. absurd (pushes_reads (seat e k) d.page p d.pushes at)) (λ c p copied hold. cc) (λ c p copied hold kept. cc) beside_before;
+        placed = us.placed;
         script = refl;
         in_step = in_step_copied e s k safe None d.moves.is;
         aside = λ who snap restores. absurd (pushes_held (seat e k) d.page d.pushes (us.aside who snap restores).latch);
@@ -317,7 +315,7 @@ module _ (e s : State) (k : ℕ) (safe : Safe e) (d : DoesLoseCopy e s k) where
   none_waits c at = (let wrong : None ≡ Some c = sym d.unmarked ∙ at in cc)
 
   pub lost_copy_keeps : Steps e s k
-  lost_copy_keeps = moves_on e s k u (lock_at e k) (session (machine e) k) safe moves turned_stays refl refl refl refl
+  lost_copy_keeps = moves_on e s k u (lock_at e k) (session (machine e) k) safe moves turned_stays (λ c in_it. in_it) refl refl refl
       (record {
         reads = λ j c p is ne within at. map_turned c p;
         marks = λ j c p is ne copied hold. map_turned c p;
@@ -329,6 +327,7 @@ module _ (e s : State) (k : ℕ) (safe : Safe e) (d : DoesLoseCopy e s k) where
       (record {
         seated = subst (λ (ls : Latches). IsSeated (counts e.pages) u (latch_of ls (sess k)) (lock_at e k)) (sym d.latches) my.seated;
         beside = beside_stays e.pages s.pages turned_stays u (λ c p within at. map_turned c p) (λ c p copied hold. map_turned c p) (λ c p copied hold kept. absurd (none_waits c copied)) my.beside;
+        placed = my.placed;
         script = refl;
         in_step = in_step_later e.pages u (session (machine e) k) (machine e).moment (machine s).moment moves.machine.later my.in_step;
         aside = λ who snap restores. my.aside who snap (moves.machine.restores who snap restores);

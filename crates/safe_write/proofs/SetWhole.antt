@@ -14,10 +14,10 @@ use Rattle.snap_cat.specs.Catalog.{Catalog}
 use Rattle.snap_pages.specs.Shown.{catalog, counts, img, pins}
 use Rattle.step_words.specs.Sittings.{stmt_at}
 use Rattle.step_words.specs.Seats.{Seated}
-use Rattle.step_state.specs.State.{State, IsSession, sess, seat, machine}
+use Rattle.step_state.specs.State.{State, IsSession, sess, seat, machine, Fixed}
 use Rattle.step_state.specs.Holding.{lock_at}
 use Rattle.step_state.specs.Snapshots.{HoldsEx, IsBeside, page_read}
-use Rattle.step_state.specs.Own.{IsSeated, IsInStep, IsSafeSession, making_in, is_between, is_gone}
+use Rattle.step_state.specs.Own.{IsSeated, IsInStep, IsSafeSession, making_in, is_between, is_gone, IsPlaced}
 use Rattle.step_state.specs.Whole.{IsWholeSafe, seat_pins}
 use Rattle.step_state.specs.Safe.{Safe}
 use Rattle.step_state.specs.Steps.{Guards}
@@ -129,11 +129,12 @@ module _ (e s : State) (k : ℕ) (page : PageId) (y : Seated) (safe : Safe e) (d
         begun = λ f. let old = me.in_step.begun going in (subst (λ n. (session (machine e) k).since ≤ n) (sym began) old.0, subst (λ n. n ≤ unwrap_or (session (machine e) k).first (machine e).moment) (sym began) old.1);
       }))
 
-  pub session_now : lock_at e k 0 ≢ None → IsSeated (counts e.pages) y None (lock_at e k) → y.sitting.script ≡ (seat e k).sitting.script → IsBeside s.pages (seat s k) → IsInStep s.pages (seat s k) (session (machine s) k) (machine s).moment → IsSafeSession s k
-  session_now held seated script beside in_step = record {
+  pub session_now : lock_at e k 0 ≢ None → IsSeated (counts e.pages) y None (lock_at e k) → IsPlaced y e.fixed.opening.source → y.sitting.script ≡ (seat e k).sitting.script → IsBeside s.pages (seat s k) → IsInStep s.pages (seat s k) (session (machine s) k) (machine s).moment → IsSafeSession s k
+  session_now held seated placed script beside in_step = record {
     seated = subst (λ x. IsSeated (counts s.pages) x (latch_of s.latches (sess k)) (lock_at s k)) (sym now)
         (seated_same (counts e.pages) (counts s.pages) y None (latch_of s.latches (sess k)) (lock_at e k) (lock_at s k) d.places.counts latch_gone (held_same k) seated);
     beside = beside;
+    placed = subst (λ (f : Fixed). IsPlaced (seat s k) f.opening.source) (sym d.fixed) (subst (λ x. IsPlaced x e.fixed.opening.source) (sym now) placed);
     script = ap (λ (x : Seated). x.sitting.script) now ∙ script ∙ me.script ∙ ap (λ (m : Plain). slice_index_or m.scripts (k - 1) []) (sym history);
     in_step = in_step;
     aside = λ who snap restores. absurd (held ((me.aside who snap (restores_same who snap restores)).locks 0));

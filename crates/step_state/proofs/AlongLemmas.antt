@@ -1,6 +1,5 @@
 -- Records that can be taken back from some pages can be from others that are alike where they matter.
-use Rattle.std.proofs.Common.{◌≡◌, ◌≢◌, ℕ, ◌%◌, ◌≤◌, Bool, true, false, cond, ◌==◌, ◌&&◌, ◌||◌, List, [], ◌∷◌, ◌++◌, length, refl, ap, sym, subst, ◌∙◌, eq-eqb, inl, inr}
-use Rattle.std.specs.Prelude.{◌⊎◌}
+use Rattle.std.proofs.Common.{◌≡◌, ◌≢◌, ℕ, ◌%◌, ◌≤◌, Bool, true, false, cond, ◌==◌, ◌&&◌, ◌||◌, List, [], ◌∷◌, ◌++◌, refl, ap, sym, subst, ◌∙◌, eq-eqb, inl, inr}
 use Rattle.std.proofs.lemmas.Bool.{cases_eq}
 use Rattle.page_base.specs.declared.numbers.PageId.{PageId}
 use Rattle.page_base.specs.Pages.{is_page}
@@ -10,7 +9,6 @@ use Rattle.page_fmt.specs.Spelling.{used}
 use Rattle.rec_log.specs.Records.{Record}
 use Rattle.rec_log.specs.Undone.{undone}
 use Rattle.rec_log.proofs.UndoneLemmas.{undone-append}
-use Rattle.page_tables.specs.Sheets.{sheets}
 use Rattle.page_tables.proofs.SheetLemmas.{sheet_same}
 use Rattle.open_tables.specs.Back.{FitsBack}
 use Rattle.open_tables.specs.Names.{names}

@@ -1,6 +1,6 @@
 -- What one session's latch keeps from the others, its pins among all, and one snapshot's files by its cut.
-use Rattle.std.proofs.Common.{◌≡◌, ◌≢◌, ℕ, ◌+◌, ◌≤◌, Bool, true, false, List, [], length, refl, ap, sym, subst, ◌∙◌, inl, inr, arith}
-use Rattle.std.specs.Prelude.{◌⊎◌, Option, Some, None, IsTrue, option_map}
+use Rattle.std.proofs.Common.{◌≡◌, ◌≢◌, ℕ, ◌≤◌, Bool, true, false, [], length, refl, ap, sym, subst, ◌∙◌, inl, inr, arith}
+use Rattle.std.specs.Prelude.{Option, Some, None, option_map}
 use Rattle.std.specs.Option.{option_map_or}
 use Rattle.std.proofs.lemmas.Bool.{cases_eq}
 use Rattle.std.proofs.lemmas.List.{length-set}
@@ -22,11 +22,11 @@ use Rattle.snap_pages.specs.Steps.{SamePlaces, ChangesSet}
 use Rattle.snap_pages.specs.Views.{KeepsViews}
 use Rattle.step_words.specs.declared.point.Point.{Point}
 use Rattle.step_words.specs.declared.point.Point.TheVariants.{Start, Lock, Latch, Look, Fetch, Take, Plan, Claim, Change, Undo, Cut, Heal, Gather, Swap, Commit, Say, Leave, Gone}
-use Rattle.step_words.specs.Seats.{Seated, Grip, no_seat, with_seat, latch_at}
+use Rattle.step_words.specs.Seats.{Grip, no_seat, latch_at}
 use Rattle.step_state.specs.State.{State, IsSession, sess, seat}
 use Rattle.step_state.specs.Posed.{FitsGrip}
 use Rattle.step_state.specs.Snapshots.{HoldsEx, page_read}
-use Rattle.step_state.specs.Whole.{IsWholeSafe, seat_pins, seats_pins, snaps_pins}
+use Rattle.step_state.specs.Whole.{IsWholeSafe, seat_pins, snaps_pins}
 use Rattle.step_state.specs.Safe.{Safe}
 use Rattle.step_state.specs.Moving.{StaysShown}
 use Rattle.step_state.proofs.SeatLemmas.{seat_pins_moved}

@@ -1,6 +1,6 @@
 -- The invariant is kept: of other sessions by what a step leaves them.
-use Rattle.std.proofs.Common.{◌≡◌, ◌≢◌, ℕ, [], ◌++◌, ◌-◌, ◌<◌, ◌≤◌, Bool, true, false, List, length, refl, ap, sym, subst, ◌∙◌, inl, inr, arith}
-use Rattle.std.specs.Prelude.{◌⊎◌, Option, Some, None, slice_index_or, unwrap_or}
+use Rattle.std.proofs.Common.{◌≡◌, ◌≢◌, ℕ, [], ◌++◌, ◌-◌, ◌<◌, ◌≤◌, true, false, List, refl, ap, sym, subst, ◌∙◌, inl, inr, arith}
+use Rattle.std.specs.Prelude.{Option, Some, None, slice_index_or, unwrap_or}
 use Rattle.std.specs.List.{AllByRecursion}
 use Rattle.std.proofs.lemmas.Bool.{cases_eq, cases_Bool}
 use Rattle.page_base.specs.declared.numbers.Mode.{Mode}
@@ -11,20 +11,20 @@ use Rattle.latch_book.specs.declared.latch.Latch.{Latch}
 use Rattle.latch_book.specs.Latches.{latch_of}
 use Rattle.page_fmt.specs.Content.{content}
 use Rattle.page_fmt.specs.Seen.{Looked}
-use Rattle.plain_model.specs.State.{Plain, Session, session, see, copy}
+use Rattle.plain_model.specs.State.{Session, session, see, copy}
 use Rattle.plain_model.specs.Meaning.{change_and_reply}
 use Rattle.plain_model.specs.Tables.{Tables}
-use Rattle.snap_pages.specs.Cuts.{place_of, marked_by, sparse_by, is_sound_by, owed_by}
-use Rattle.snap_pages.specs.Shown.{Shown, catalog, counts, img}
+use Rattle.snap_pages.specs.Cuts.{place_of, marked_by, is_sound_by}
+use Rattle.snap_pages.specs.Shown.{catalog, counts}
 use Rattle.snap_pages.specs.Views.{IsKept, view}
 use Rattle.sys_cat.specs.declared.desc.TableDesc.{TableDesc}
 use Rattle.step_words.specs.Seats.{Seated}
 use Rattle.step_state.specs.State.{State, Fixed, IsSession, sess, seat, machine, alone_of, before_of}
 use Rattle.step_state.specs.Holding.{lock_at}
-use Rattle.step_state.specs.Snapshots.{IsBeside, name_by}
-use Rattle.step_state.specs.Own.{IsSeated, IsInStep, IsAside, IsSafeSession, making_in, is_between}
-use Rattle.step_state.specs.Told.{IsToldSource, IsToldReading, IsTold, IsToldWhole}
-use Rattle.step_state.specs.Safe.{Safe, IsContent}
+use Rattle.step_state.specs.Snapshots.{IsBeside}
+use Rattle.step_state.specs.Own.{IsSeated, IsInStep, IsAside, IsSafeSession, making_in, IsPlaced}
+use Rattle.step_state.specs.Told.{IsToldSource, IsToldReading, IsTold}
+use Rattle.step_state.specs.Safe.{Safe}
 use Rattle.step_state.specs.Steps.{Guards, LeavesQuiet, LeavesContent, Quietly, Each, Steps}
 
 -- FOUR AND EIGHT VALUES THAT ARE THE SAME
@@ -118,6 +118,7 @@ module _ (e s : State) (k : ℕ) (g : Guards e s k) (j : ℕ) (is : IsSession e 
       record {
         seated = t.0;
         beside = t.1;
+        placed = subst (λ (f : Fixed). IsPlaced (seat s j) f.opening.source) (sym g.fixed) (subst (λ x. IsPlaced x e.fixed.opening.source) (sym (g.seats j ne)) a.placed);
         script = ap (λ x. x.sitting.script) (g.seats j ne) ∙ a.script ∙ ap (λ ss. slice_index_or ss (j - 1) []) (sym g.scripts);
         in_step = t.2;
         aside = λ who snap restores. subst (λ (f : Fixed). IsAside (seat s j) (lock_at s j) f.opening.source snap) (sym g.fixed) (t.3 who snap restores);

@@ -15,7 +15,7 @@ use Rattle.plain_model.specs.Journal.{Committed}
 use Rattle.plain_model.specs.declared.stmt.Stmt.{Stmt}
 use Rattle.plain_model.specs.Journal.{Opening}
 use Rattle.plain_model.specs.Legal.{MayCome, LegalFrom, Legal, after, end, end_from, with_session, with_changes, outside, after_commit, with_doubt, without_snap, without_made, effect}
-use Rattle.plain_model.specs.State.{Plain, Session, session, see, stmt_of, files_of, start}
+use Rattle.plain_model.specs.State.{Plain, session, see, stmt_of, files_of, start}
 use Rattle.step_state.specs.State.{State, Fixed, machine}
 
 pub machine_same : (e s : State) → s.fixed ≡ e.fixed → s.events ≡ e.events → machine s ≡ machine e

@@ -1,5 +1,5 @@
 -- A step that changes no page of the source: what it leaves of the whole, and to others.
-use Rattle.std.proofs.Common.{◌≡◌, ◌≢◌, ℕ, ◌+◌, ◌-◌, ◌≤◌, Bool, true, false, List, [], ◌∷◌, ◌++◌, length, map, refl, ap, sym, subst, ◌∙◌, inl, inr, arith}
+use Rattle.std.proofs.Common.{◌≡◌, ◌≢◌, ℕ, ◌+◌, ◌-◌, ◌≤◌, true, false, List, [], ◌∷◌, ◌++◌, length, map, refl, ap, sym, subst, ◌∙◌, inl, inr, arith}
 use Rattle.std.specs.Prelude.{if◌then◌else◌, Option, Some, None, IsTrue, option_map, is_some, slice_index_or}
 use Rattle.std.specs.Option.{option_map_or}
 use Rattle.std.specs.List.{AllByRecursion}
@@ -13,8 +13,7 @@ use Rattle.lock_book.specs.Locks.{lock_of, IsLockBook}
 use Rattle.page_fmt.specs.Content.{content, IsPage}
 use Rattle.page_fmt.specs.Seen.{Looked}
 use Rattle.plain_model.specs.Legal.{Legal}
-use Rattle.plain_model.specs.Meaning.{change_and_reply}
-use Rattle.plain_model.specs.State.{Plain, Session, session, committed, see, copy}
+use Rattle.plain_model.specs.State.{Plain, Session, session, committed, see, copy, master}
 use Rattle.plain_model.specs.Tables.{Tables, apply}
 use Rattle.rec_log.specs.Undone.{undone}
 use Rattle.sparse_set.specs.Sparse.{Sparse, is_copied, sparse_page}
@@ -22,7 +21,7 @@ use Rattle.snap_cat.specs.Catalog.{Snap, Catalog, IsCatalog, snap_at}
 use Rattle.snap_pages.specs.Cuts.{place_of, is_open_by, marked_by, sparse_by, is_sound_by, owed_by}
 use Rattle.snap_pages.specs.Dues.{is_sound}
 use Rattle.snap_cat.specs.declared.snapshot.SnapState.TheVariants.{Making, Online, Suspect}
-use Rattle.snap_pages.specs.Shown.{Shown, catalog, count, counts, img, pins, set_of, state_of, owes_of, IsOpen}
+use Rattle.snap_pages.specs.Shown.{Shown, catalog, counts, img, set_of, state_of, owes_of, IsOpen}
 use Rattle.snap_pages.specs.Slots.{slots_of}
 use Rattle.snap_pages.specs.Steps.{SameSnaps, SamePlaces}
 use Rattle.snap_pages.specs.Views.{IsKept, KeepsViews, seen, view}
@@ -41,8 +40,8 @@ use Rattle.step_state.specs.State.{State, Fixed, IsSession, sess, seat, works, m
 use Rattle.step_state.specs.Holding.{lock_at, writes}
 use Rattle.step_state.specs.Posed.{IsIn, IsOnCourse}
 use Rattle.step_state.specs.Snapshots.{HoldsEx, IsBeside, IsKeptBy, name_by, page_read}
-use Rattle.step_state.specs.Own.{IsSeated, IsInStep, IsAside, IsSafeSession, making_in}
-use Rattle.step_state.specs.Whole.{IsWholeSafe, IsReverting, seat_pins, seats_pins, snaps_pins, snap_told}
+use Rattle.step_state.specs.Own.{IsSeated, IsInStep, IsAside, IsSafeSession, making_in, IsPlaced}
+use Rattle.step_state.specs.Whole.{IsWholeSafe, seats_pins, snaps_pins, snap_told}
 use Rattle.step_state.specs.Told.{IsToldSource, IsToldReading, IsTold, IsToldWhole, GoBack, AreSized, SpreadBack}
 use Rattle.step_state.specs.Safe.{Safe, IsContent}
 use Rattle.step_state.specs.Steps.{LeavesSnaps, Guards, LeavesQuiet, Steps, Quietly}
@@ -287,6 +286,7 @@ module _ (e s : State) (k : ℕ) (x : Seated) (held : ℕ → Option Mode) (m : 
   pub record OwnBefore : Type 0 where
     pub seated : IsSeated (counts e.pages) x (latch_of s.latches (sess k)) held
     pub beside : IsBeside s.pages x
+    pub placed : IsPlaced x e.fixed.opening.source
     pub script : x.sitting.script ≡ (seat e k).sitting.script
     pub in_step : IsInStep e.pages x m (machine s).moment
     pub aside : (who : ℕ) (snap : List ℕ) → (machine s).restoring ≡ Some (who, snap) → IsAside x held e.fixed.opening.source snap
@@ -310,6 +310,7 @@ module _ (e s : State) (k : ℕ) (x : Seated) (held : ℕ → Option Mode) (m : 
         (subst (λ f. IsSeated f x (latch_of s.latches (sess k)) (lock_at s k)) (sym files)
         (subst (λ (h : ℕ → Option Mode). IsSeated (counts e.pages) x (latch_of s.latches (sess k)) h) (sym d.locked) own.seated));
     beside = subst (λ y. IsBeside s.pages y) (sym now) own.beside;
+    placed = subst (λ (f : Fixed). IsPlaced (seat s k) f.opening.source) (sym d.fixed) (subst (λ y. IsPlaced y e.fixed.opening.source) (sym now) own.placed);
     script = ap (λ (y : Seated). y.sitting.script) now ∙ own.script ∙ (safe.sessions k d.is).script ∙ ap (λ ss. slice_index_or ss (k - 1) []) (sym d.machine.scripts);
     in_step = subst (λ (w : Session). IsInStep s.pages (seat s k) w (machine s).moment) (sym d.machine.own)
         (subst (λ y. IsInStep s.pages y m (machine s).moment) (sym now) (in_step_stays own.in_step));
@@ -318,7 +319,13 @@ module _ (e s : State) (k : ℕ) (x : Seated) (held : ℕ → Option Mode) (m : 
         (subst (λ (h : ℕ → Option Mode). IsAside x h e.fixed.opening.source snap) (sym d.locked) (own.aside who snap restores)));
   }
 
-  module _ (within : x.sitting.within ≡ (seat e k).sitting.within) (making : x.making ≡ (seat e k).making) (gathered : x.gathered ≡ (seat e k).gathered) where
+  module _ (within : (c : ℕ) → x.sitting.within ≡ Some c → (seat e k).sitting.within ≡ Some c) (making : x.making ≡ (seat e k).making) (gathered : x.gathered ≡ (seat e k).gathered) where
+    within_before : (i c : ℕ) → (seat s i).sitting.within ≡ Some c → (seat e i).sitting.within ≡ Some c
+    within_before i c in_it = elim (cases_eq i k) [
+      | inl here ↦ ap (λ n. (seat e n).sitting.within) here ∙ within c (sym (ap (λ (y : Seated). y.sitting.within) now) ∙ sym (ap (λ n. (seat s n).sitting.within) here) ∙ in_it)
+      | inr ne ↦ sym (ap (λ (y : Seated). y.sitting.within) (elsewhere i ne)) ∙ in_it
+    ]
+
     copied_still : (n : SnapNo) (gs : List Gathered) → AllByRecursion (λ (g : Gathered). is_copied (set_of e.pages n) g.page ≡ true) gs → AllByRecursion (λ (g : Gathered). is_copied (set_of s.pages n) g.page ≡ true) gs
     copied_still n [] all = tt
     copied_still n (g ∷ gs) all = (stays.grows n g.page all.0, copied_still n gs all.1)
@@ -334,6 +341,7 @@ module _ (e s : State) (k : ℕ) (x : Seated) (held : ℕ → Option Mode) (m : 
       locks = d.book;
       sessions = as_many ∙ safe.whole.sessions ∙ ap (λ (f : Fixed). length f.scripts) (sym d.fixed);
       few = omega (arith, as_many, safe.whole.few);
+      named = subst (λ (f : Fixed). f.opening.source ≢ master) (sym d.fixed) safe.whole.named;
       pinned = λ p.
           let moved = ap (λ xs. seats_pins xs p) d.seats in
           let due = seat_pins_moved e.seats k x p d.is.first d.is.last in
@@ -359,7 +367,7 @@ module _ (e s : State) (k : ℕ) (x : Seated) (held : ℕ → Option Mode) (m : 
             mapped = copied_still (record { 0 = 0 }) (seat s who).gathered (subst (λ gs. AllByRecursion (λ (g : Gathered). is_copied (set_of e.pages (record { 0 = 0 })) g.page ≡ true) gs) (sym (kept_field (λ (y : Seated). y.gathered) gathered who)) old.mapped);
           };
       free = λ i j c there here in_it makes.
-          safe.whole.free i j c (session_before i there) (session_before j here) (sym (kept_field (λ (y : Seated). y.sitting.within) within i) ∙ in_it) (sym (kept_field (λ (y : Seated). y.making) making j) ∙ makes);
+          safe.whole.free i j c (session_before i there) (session_before j here) (within_before i c in_it) (sym (kept_field (λ (y : Seated). y.making) making j) ∙ makes);
     }
 
     module _ (ds : List TableDesc) (told : IsToldWhole e ds) where
@@ -510,6 +518,7 @@ module _ (e s : State) (k : ℕ) (x : Seated) (safe : Safe e) (d : MovesSeat e s
   pub record OwnStill : Type 0 where
     pub seated : IsSeated (counts e.pages) x (latch_of s.latches (sess k)) (lock_at e k)
     pub beside : IsBeside s.pages x
+    pub placed : IsPlaced x e.fixed.opening.source
     pub script : x.sitting.script ≡ (seat e k).sitting.script
     pub in_step : IsInStep e.pages x (session (machine e) k) (machine e).moment
     pub aside : (who : ℕ) (snap : List ℕ) → (machine e).restoring ≡ Some (who, snap) → IsAside x (lock_at e k) e.fixed.opening.source snap
@@ -517,10 +526,11 @@ module _ (e s : State) (k : ℕ) (x : Seated) (safe : Safe e) (d : MovesSeat e s
   pub seat_moves : x.sitting.within ≡ (seat e k).sitting.within → x.making ≡ (seat e k).making → x.gathered ≡ (seat e k).gathered → x.work.recs ≡ (seat e k).work.recs → x.base ≡ (seat e k).base → LeavesBeside e s k x (lock_at e k) (session (machine e) k) safe still stays → ((j : ℕ) → j ≢ k → latch_of s.latches (sess j) ≡ latch_of e.latches (sess j)) → IsLatchBook s.latches → MovesPins e.pages s.pages (seat e k) x → OwnStill
       → ((ds : List TableDesc) → IsContent e ds → IsToldSource (counts e.pages) ds x (lock_at e k) (session (machine e) k) (alone_of e k) (before_of e k) (see (machine e) k) × IsToldReading e.pages (machine e) x) → Steps e s k
   seat_moves within making gathered recs base apart latches book pinned own told =
-      moves_on e s k x (lock_at e k) (session (machine e) k) safe still stays within making gathered recs apart latches book pinned
+      moves_on e s k x (lock_at e k) (session (machine e) k) safe still stays (λ c in_it. sym within ∙ in_it) making gathered recs apart latches book pinned
       (record {
         seated = own.seated;
         beside = own.beside;
+        placed = own.placed;
         script = own.script;
         in_step = subst (λ (w : Plain). IsInStep e.pages x (session (machine e) k) w.moment) (sym history) own.in_step;
         aside = λ who snap restores. own.aside who snap (sym (ap (λ (w : Plain). w.restoring) history) ∙ restores);

@@ -1,6 +1,6 @@
 -- Steps that leave the snapshots and the history: what stays of the whole, and of what others know of snapshots.
-use Rattle.std.proofs.Common.{◌≡◌, ◌≢◌, ℕ, ◌+◌, ◌<◌, ◌≤◌, Bool, true, false, List, [], length, map, refl, ap, sym, subst, ◌∙◌, inl, inr, arith}
-use Rattle.std.specs.Prelude.{◌⊎◌, Option, Some, None, IsTrue, option_map, is_some}
+use Rattle.std.proofs.Common.{◌≡◌, ◌≢◌, ℕ, ◌+◌, true, false, List, [], length, map, ap, sym, subst, ◌∙◌, inl, inr, arith}
+use Rattle.std.specs.Prelude.{Some, option_map, is_some}
 use Rattle.std.specs.Option.{option_map_or}
 use Rattle.std.specs.List.{AllByRecursion}
 use Rattle.std.proofs.lemmas.Bool.{cases_eq}
@@ -10,15 +10,14 @@ use Rattle.page_base.specs.Pages.{blank}
 use Rattle.page_fmt.specs.Content.{IsPage}
 use Rattle.latch_book.specs.Latches.{IsLatchBook}
 use Rattle.lock_book.specs.Locks.{IsLockBook}
-use Rattle.plain_model.specs.State.{Plain, copy}
+use Rattle.plain_model.specs.State.{copy, master}
 use Rattle.plain_model.specs.Tables.{Tables}
 use Rattle.rec_log.specs.Undone.{undone}
 use Rattle.sparse_set.specs.Sparse.{Sparse, is_copied, sparse_page}
-use Rattle.snap_cat.specs.declared.snapshot.SnapState.TheVariants.{Online}
 use Rattle.snap_cat.specs.Catalog.{Snap, Catalog, IsCatalog, snap_at}
-use Rattle.snap_pages.specs.Cuts.{place_of, snap_by, is_open_by, marked_by, sparse_by, is_sound_by, owed_by}
+use Rattle.snap_pages.specs.Cuts.{is_open_by, marked_by, sparse_by, is_sound_by, owed_by}
 use Rattle.snap_pages.specs.Dues.{is_sound}
-use Rattle.snap_pages.specs.Shown.{Shown, catalog, count, counts, img, pins, set_of, state_of, owes_of, IsOpen, IsWhole}
+use Rattle.snap_pages.specs.Shown.{catalog, counts, img, pins, set_of, owes_of, IsOpen}
 use Rattle.snap_pages.specs.Slots.{slots_of}
 use Rattle.snap_pages.specs.Steps.{SameSnaps, SamePlaces}
 use Rattle.snap_pages.specs.Views.{IsKept, KeepsViews, view}
@@ -29,7 +28,7 @@ use Rattle.step_words.specs.Seats.{Seated, Gathered, seat_in, with_seat}
 use Rattle.step_state.specs.State.{State, Fixed, IsSession, seat, machine}
 use Rattle.step_state.specs.Snapshots.{HoldsEx, IsKeptBy, name_by}
 use Rattle.step_state.specs.Own.{IsSafeSession}
-use Rattle.step_state.specs.Whole.{IsWholeSafe, IsReverting, seat_pins, seats_pins, snaps_pins, snap_told, due_pins}
+use Rattle.step_state.specs.Whole.{IsWholeSafe, seat_pins, seats_pins, snaps_pins, snap_told}
 use Rattle.step_state.specs.Told.{IsToldWhole, GoBack}
 use Rattle.step_state.specs.Steps.{LeavesSnaps}
 use Rattle.step_state.proofs.SeatLemmas.{seats_long, seat_here, seat_there, seat_pins_moved}
@@ -133,6 +132,7 @@ module _ (e s : State) (k : ℕ) (is : IsSession e k) (x : Seated) (whole : IsWh
     locks = locks;
     sessions = seats_many ∙ whole.sessions ∙ ap (λ (f : Fixed). length f.scripts) (sym fixed);
     few = omega (arith, seats_many, whole.few);
+    named = subst (λ (f : Fixed). f.opening.source ≢ master) (sym fixed) whole.named;
     pinned = λ p.
         let moved = ap (λ xs. seats_pins xs p) seats in
         let due = seat_pins_moved e.seats k x p is.first is.last in

@@ -1,11 +1,11 @@
 -- Where no snapshot changes: their words by cut, their states and their files.
-use Rattle.std.proofs.Common.{◌≡◌, ℕ, List, refl, ap, sym, ◌∙◌}
+use Rattle.std.proofs.Common.{◌≡◌, ℕ, List, ap, ◌∙◌}
 use Rattle.std.specs.Prelude.{Option, option_map, slice_index_or}
 use Rattle.page_base.specs.declared.numbers.SnapNo.{SnapNo}
 use Rattle.sparse_set.specs.Sparse.{Sparse, no_set}
 use Rattle.snap_cat.specs.Catalog.{Snap, Catalog, snap_at}
-use Rattle.snap_pages.specs.Cuts.{place_in, place_of, snap_by}
-use Rattle.snap_pages.specs.Shown.{Shown, catalog, set_of}
+use Rattle.snap_pages.specs.Cuts.{place_in, snap_by}
+use Rattle.snap_pages.specs.Shown.{Shown, set_of}
 use Rattle.snap_pages.specs.Steps.{SameSnaps}
 
 abbrev found_in : Catalog → List Sparse → ℕ → Option (Snap × Sparse)

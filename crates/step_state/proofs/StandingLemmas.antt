@@ -1,23 +1,19 @@
 -- Where nobody holds all tables: whose records lie where, and that no two sessions' records name one slot.
-use Rattle.std.proofs.Common.{◌≡◌, ◌≢◌, ℕ, zero, suc, ◌+◌, ◌-◌, ◌%◌, ◌<◌, ◌≤◌, Bool, true, false, cond, ◌==◌, ◌&&◌, List, [], ◌∷◌, length, refl, ap, sym, subst, ◌∙◌, inl, inr, arith}
-use Rattle.std.specs.Prelude.{◌⊎◌, not, Option, Some, None, slice_index_or}
+use Rattle.std.proofs.Common.{◌≡◌, ◌≢◌, ℕ, zero, suc, ◌-◌, ◌%◌, ◌<◌, Bool, true, false, ◌==◌, ◌&&◌, List, [], length, refl, ap, sym, subst, ◌∙◌, inl, inr, arith}
+use Rattle.std.specs.Prelude.{◌⊎◌, not, Option, Some, None}
 use Rattle.std.proofs.lemmas.Bool.{cases_Bool, cases_eq, cases_lt, and_parts}
 use Rattle.std.proofs.lemmas.List.{get_or_past}
 use Rattle.page_base.specs.declared.numbers.Mode.{Mode}
 use Rattle.page_base.specs.declared.numbers.Mode.TheVariants.{S, X}
 use Rattle.page_base.specs.declared.numbers.PageId.{PageId}
 use Rattle.page_base.specs.declared.numbers.SessNo.{SessNo}
-use Rattle.page_base.specs.Slots.{Slots}
-use Rattle.lock_book.specs.Locks.{lock_of, IsLockBook}
+use Rattle.lock_book.specs.Locks.{IsLockBook}
 use Rattle.rec_log.specs.Records.{Record}
-use Rattle.rec_log.specs.Undone.{undone}
 use Rattle.snap_pages.specs.Shown.{counts}
 use Rattle.sys_cat.specs.declared.desc.TableDesc.{TableDesc}
 use Rattle.alloc_pages.specs.Owners.{page_owner}
-use Rattle.alloc_pages.specs.Spots.{spot_of}
-use Rattle.page_tables.specs.Sheets.{sheets}
 use Rattle.page_tables.proofs.MineLemmas.{every_spot}
-use Rattle.open_work.specs.Open.{Parts, all, with_part}
+use Rattle.open_work.specs.Open.{all, with_part}
 use Rattle.open_tables.specs.Back.{Back}
 use Rattle.open_tables.specs.Names.{names, AreClaims}
 use Rattle.open_tables.proofs.BackLemmas.{claims}
@@ -25,12 +21,11 @@ use Rattle.open_commits.specs.Within.{LieWithin, AreApart, TellOwners}
 use Rattle.open_commits.proofs.WithinLemmas.{differ, lie_back, spread_tells, tells_over}
 use Rattle.open_commits.proofs.StandLemmas.{stand_beside, names_part}
 use Rattle.open_commits.proofs.ApartLemmas.{own_part, other_part, claims_all, AreNamedApart}
-use Rattle.step_words.specs.Seats.{Seated, no_seat, seat_in}
+use Rattle.step_words.specs.Seats.{Seated, no_seat}
 use Rattle.step_state.specs.State.{State, IsSession, sess, seat, works, many, slots_at, settled_of, alone_of}
 use Rattle.step_state.specs.Holding.{is_x, holds_all, writes, lock_at}
 use Rattle.step_state.specs.Own.{IsSafeSession}
 use Rattle.step_state.specs.Whole.{IsWholeSafe}
-use Rattle.step_state.specs.Told.{IsTold, IsToldWhole}
 use Rattle.step_state.specs.Safe.{IsContent}
 
 -- LOCKS

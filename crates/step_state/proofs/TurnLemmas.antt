@@ -1,8 +1,8 @@
 -- A snapshot that turns suspect: all that others go by stays, and the plain machine has it so.
-use Rattle.std.proofs.Common.{◌≡◌, ◌≢◌, ℕ, zero, suc, ◌+◌, ◌<◌, ◌≤◌, Bool, true, false, cond, List, [], ◌∷◌, ◌++◌, length, map, get_or, refl, ap, sym, subst, ◌∙◌, inl, inr, arith}
-use Rattle.std.specs.Prelude.{◌⊎◌, Option, Some, None, IsTrue, slice_set, unwrap_or}
+use Rattle.std.proofs.Common.{◌≡◌, ◌≢◌, ℕ, zero, suc, ◌+◌, ◌<◌, ◌≤◌, Bool, true, false, cond, List, [], ◌∷◌, length, map, get_or, refl, ap, sym, subst, ◌∙◌, inl, inr, arith}
+use Rattle.std.specs.Prelude.{◌⊎◌, Option, Some, None, slice_set, unwrap_or}
 use Rattle.std.specs.Str.{bytes_eq}
-use Rattle.std.proofs.lemmas.Bool.{cases_eq, cases_Bool, cases_lt}
+use Rattle.std.proofs.lemmas.Bool.{cases_Bool, cases_lt}
 use Rattle.std.proofs.lemmas.List.{length-set, get_or-set_same, get_or-set_other, set-get_or}
 use Rattle.page_base.specs.declared.numbers.PageId.{PageId}
 use Rattle.page_base.specs.declared.numbers.SnapNo.{SnapNo}
@@ -11,27 +11,26 @@ use Rattle.buf_pool.specs.Pool.{Pooled, img as pool_img}
 use Rattle.lock_book.specs.Locks.{lock_of, IsLockBook}
 use Rattle.plain_model.specs.declared.event.Event.TheVariants.{Turned}
 use Rattle.plain_model.specs.Legal.{after, turned, Legal}
-use Rattle.plain_model.specs.State.{Plain, Session, Snap as PlainSnap, session, committed, copy}
+use Rattle.plain_model.specs.State.{Plain, Session, session, committed, copy}
 use Rattle.plain_steps.proofs.LockLemmas.{bytes_same, same_bytes}
 use Rattle.sparse_set.specs.Sparse.{Sparse, is_copied, sparse_page}
 use Rattle.snap_cat.specs.Catalog.{Snap, Catalog, IsCatalog, no_snap, snap_at, HasSnap, with_state}
-use Rattle.snap_cat.specs.declared.snapshot.SnapState.{SnapState}
 use Rattle.snap_cat.specs.declared.snapshot.SnapState.TheVariants.{Suspect}
 use Rattle.snap_pages.specs.Owed.{count_on}
-use Rattle.snap_pages.specs.Shown.{Shown, catalog, count, counts, img, set_of, state_of, owes_of, cut_of, IsOpen}
+use Rattle.snap_pages.specs.Shown.{Shown, catalog, counts, set_of, state_of}
 use Rattle.page_tables.specs.Owners.{is_there}
 use Rattle.plain_model.specs.Meaning.{change_and_reply}
 use Rattle.step_words.specs.Seats.{Seated, no_seat, seat_in, with_seat}
 use Rattle.step_state.specs.Own.{IsInStep}
 use Rattle.step_state.specs.Told.{IsToldReading}
-use Rattle.step_state.specs.State.{State, Fixed, IsSession, sess, seat, machine}
+use Rattle.step_state.specs.State.{State, IsSession, sess, seat, machine}
 use Rattle.step_state.specs.Holding.{lock_at}
-use Rattle.step_state.specs.Whole.{IsWholeSafe, snaps_pins, snap_told, is_suspect}
+use Rattle.step_state.specs.Whole.{snaps_pins, snap_told}
 use Rattle.step_state.specs.Safe.{Safe}
 use Rattle.step_state.specs.Moving.{StaysShown, MovesMachine, MovesOn, TurnsSuspect, SaysTurned}
 use Rattle.step_state.proofs.MachineLemmas.{machine_more, history_more}
 use Rattle.step_state.specs.Snapshots.{IsKeptBy}
-use Rattle.snap_pages.specs.Cuts.{place_of, sparse_by}
+use Rattle.snap_pages.specs.Cuts.{sparse_by}
 use Rattle.step_state.proofs.ApartLemmas.{by_place_no, sparse_at}
 
 -- ONE SNAPSHOT OF A CATALOG

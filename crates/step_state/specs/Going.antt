@@ -1,6 +1,7 @@
 -- Where a session goes on with the course of its statement.
 use Rattle.std.specs.Prelude.{ℕ, ◌+◌, ◌==◌, ◌&&◌, if◌then◌else◌, false, true, List, [], ◌∷◌, length, drop, Option, Some, None, unwrap_or}
 use Rattle.page_base.specs.declared.numbers.Mode.TheVariants.{S}
+use Rattle.page_base.specs.declared.numbers.PageId.{PageId}
 use Rattle.plain_model.specs.declared.event.LockName.TheVariants.{All, Table}
 use Rattle.plain_model.specs.declared.stmt.Stmt.{Stmt}
 use Rattle.sys_cat.specs.declared.desc.TableDesc.{TableDesc}
@@ -14,6 +15,7 @@ use Rattle.step_words.specs.declared.stage.DbKind.TheVariants.{Master, Source, S
 use Rattle.step_words.specs.declared.stage.Stage.{Stage}
 use Rattle.step_words.specs.declared.stage.Stage.TheVariants.{AskAll, ScanZero, AskTable, Scan, Plan, Claim as Claiming, Edit as Editing, End}
 use Rattle.step_words.specs.Courses.{Course, Draft}
+use Rattle.step_words.specs.Seats.{Seated}
 use Rattle.step_words.specs.Coming.{draft_write, taken_at}
 
 -- it asks for its table's lock; a course without a table plans at once
@@ -57,3 +59,26 @@ course_begun stmt at = record { stmt = stmt; at = at; stage = first_stage at; ba
 -- where a session of this depth goes on
 abbrev pub point_for : ℕ → Course → Point
 point_for depth c = point_at depth c c.stage
+
+-- with the lock for which it asked it reads, from the root on
+abbrev pub root_of : Option TableDesc → PageId
+root_of None = zero_root
+root_of (Some d) = d.root
+
+abbrev pub locked_stage : Stage → Option TableDesc → Stage
+locked_stage AskAll desc = ScanZero zero_root
+locked_stage AskTable desc = Scan (root_of desc) false
+locked_stage stage desc = stage
+
+abbrev pub locked : Course → Course
+locked c = record c { stage = locked_stage c.stage c.desc }
+
+-- the page that it reads next
+abbrev pub page_visited : Stage → Option PageId
+page_visited (ScanZero page) = Some page
+page_visited (Scan page rows) = Some page
+page_visited stage = None
+
+-- a seat whose session goes on with this course
+abbrev pub seat_going : Seated → Course → Seated
+seat_going x c = record x { sitting = record x.sitting { course = Some c; point = point_for x.sitting.depth c } }

@@ -6,7 +6,7 @@ use Rattle.page_base.specs.declared.numbers.SnapNo.{SnapNo}
 use Rattle.lock_book.specs.Locks.{IsLockBook}
 use Rattle.plain_model.specs.declared.event.Event.TheVariants.{Turned}
 use Rattle.plain_model.specs.Legal.{Legal, MayCome}
-use Rattle.plain_model.specs.State.{Plain, Session, session, committed, copy}
+use Rattle.plain_model.specs.State.{Session, session, committed, copy}
 use Rattle.page_tables.specs.Owners.{is_there}
 use Rattle.sparse_set.specs.Sparse.{is_copied}
 use Rattle.snap_cat.specs.Catalog.{IsCatalog, snap_at, with_state}

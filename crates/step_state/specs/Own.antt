@@ -4,8 +4,7 @@ use Rattle.page_base.specs.declared.numbers.Mode.{Mode}
 use Rattle.page_base.specs.declared.numbers.PageId.{PageId}
 use Rattle.latch_book.specs.declared.latch.Latch.{Latch}
 use Rattle.latch_book.specs.Latches.{latch_of}
-use Rattle.plain_model.specs.declared.stmt.Stmt.{Stmt}
-use Rattle.plain_model.specs.State.{Plain, Session, session, master}
+use Rattle.plain_model.specs.State.{Session, session, master}
 use Rattle.snap_pages.specs.Shown.{Shown, counts}
 use Rattle.page_tables.specs.Owners.{is_there}
 use Rattle.step_words.specs.Sittings.{stmt_at}
@@ -15,7 +14,7 @@ use Rattle.step_words.specs.declared.stage.DbKind.TheVariants.{Source}
 use Rattle.step_words.specs.declared.stage.Stage.TheVariants.{Claim as Claiming, Edit as Editing}
 use Rattle.step_words.specs.Courses.{Course}
 use Rattle.step_words.specs.Seats.{Seated, latch_at, Free}
-use Rattle.step_state.specs.State.{State, sess, seat, works, machine}
+use Rattle.step_state.specs.State.{State, sess, seat, machine}
 use Rattle.step_state.specs.Holding.{lock_at, HasLocks}
 use Rattle.step_state.specs.Posed.{IsPosed}
 use Rattle.step_state.specs.Snapshots.{IsBeside, name_by}
@@ -76,12 +75,17 @@ pub record IsAside (x : Seated) (held : ℕ → Option Mode) (source snap : List
   pub records : x.work.recs ≡ []
   pub locks : (n : ℕ) → held n ≡ None
   pub latch : x.hold ≡ Free
-  pub away : (x.sitting.current ≢ source) × (x.sitting.current ≢ snap)
+  pub away : (x.sitting.current ≢ source) × (x.sitting.within ≡ None)
   pub making : x.making ≡ None
+
+-- who is in no snapshot is in the source, or in no database
+abbrev pub IsPlaced : Seated → List ℕ → Type 0
+IsPlaced x source = x.sitting.within ≡ None → (x.sitting.current ≡ master) ⊎ (x.sitting.current ≡ source)
 
 pub record IsSafeSession (e : State) (k : ℕ) : Type 0 where
   pub seated : IsSeated (counts e.pages) (seat e k) (latch_of e.latches (sess k)) (lock_at e k)
   pub beside : IsBeside e.pages (seat e k)
+  pub placed : IsPlaced (seat e k) e.fixed.opening.source
   pub script : (seat e k).sitting.script ≡ slice_index_or (machine e).scripts (k - 1) []
   pub in_step : IsInStep e.pages (seat e k) (session (machine e) k) (machine e).moment
   pub aside : (who : ℕ) (snap : List ℕ) → (machine e).restoring ≡ Some (who, snap) → IsAside (seat e k) (lock_at e k) e.fixed.opening.source snap

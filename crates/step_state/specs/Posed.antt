@@ -11,15 +11,14 @@ use Rattle.table_walk.specs.declared.plan.Spot.TheVariants.{Old, New}
 use Rattle.table_walk.specs.Addresses.{IsTarget}
 use Rattle.page_tables.specs.Owners.{is_there}
 use Rattle.page_tables.specs.Writes.{Write, claim}
-use Rattle.alloc_pages.specs.Spots.{spot_of}
 use Rattle.step_words.specs.declared.point.Point.{Point}
-use Rattle.step_words.specs.declared.point.Point.TheVariants.{Start, Lock, Latch, Look, Fetch, Take, Claim, Change, Undo, Cut, Heal, Gather, Swap, Commit, Say, Leave, Gone}
+use Rattle.step_words.specs.declared.point.Point.TheVariants.{Start, Look, Fetch, Take, Claim, Change, Undo, Cut, Heal, Gather, Swap, Commit, Say, Leave, Gone}
 use Rattle.step_words.specs.declared.stage.DbKind.{DbKind}
 use Rattle.step_words.specs.declared.stage.DbKind.TheVariants.{Master, Source, Snap}
 use Rattle.step_words.specs.declared.stage.Stage.TheVariants.{Claim as Claiming, Edit as Editing, End}
 use Rattle.step_words.specs.Courses.{Course, Draft, Plain, Root, is_planned, is_past_all, is_past_table}
 use Rattle.step_words.specs.Coming.{draft_write, taken_at}
-use Rattle.step_words.specs.Sittings.{Sitting, stmt_at, ends_work}
+use Rattle.step_words.specs.Sittings.{stmt_at, ends_work}
 use Rattle.step_words.specs.Seats.{Seated, Grip, Free, Latched, Fetched}
 
 -- what a session may hold at a point: one latch at most, that of the page which the point names

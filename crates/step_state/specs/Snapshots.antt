@@ -1,17 +1,16 @@
 -- What a session holds of snapshots, by the numbers of their cuts.
-use Rattle.std.specs.Prelude.{ℕ, ◌≡◌, ◌⊎◌, ◌<◌, Bool, true, false, List, [], Option, Some, None, IsTrue, option_map}
+use Rattle.std.specs.Prelude.{ℕ, ◌≡◌, ◌⊎◌, ◌<◌, true, false, List, [], Option, Some, None, option_map}
 use Rattle.page_base.specs.declared.numbers.PageId.{PageId}
 use Rattle.page_base.specs.declared.numbers.SnapNo.{SnapNo}
 use Rattle.latch_book.specs.declared.latch.LatchMode.TheVariants.{Ex}
 use Rattle.sparse_set.specs.Sparse.{Sparse}
 use Rattle.snap_cat.specs.Catalog.{Snap}
 use Rattle.snap_pages.specs.Shown.{Shown, catalog, img}
-use Rattle.snap_pages.specs.Views.{IsKept, view}
+use Rattle.snap_pages.specs.Views.{IsKept}
 use Rattle.snap_pages.specs.Cuts.{place_of, snap_by, is_open_by, marked_by, sparse_by, is_sound_by, owed_by}
 use Rattle.step_words.specs.declared.point.Point.{Point}
 use Rattle.step_words.specs.declared.point.Point.TheVariants.{Fetch, Take, Say}
-use Rattle.step_words.specs.Seats.{Seated, Grip, latch_at}
-use Rattle.latch_book.specs.declared.latch.Latch.{Latch}
+use Rattle.step_words.specs.Seats.{Seated, latch_at}
 
 -- the name of the snapshot of a cut, if there is one
 abbrev pub name_by : Shown → ℕ → Option (List ℕ)

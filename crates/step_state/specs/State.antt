@@ -1,6 +1,5 @@
 -- The engine's state as data: pages and snapshots, latches, locks, what is kept of each session, and the history.
 use Rattle.std.specs.Prelude.{ℕ, ◌+◌, ◌≤◌, Bool, List, length}
-use Rattle.page_base.specs.declared.numbers.PageId.{PageId}
 use Rattle.page_base.specs.declared.numbers.SessNo.{SessNo}
 use Rattle.page_base.specs.Slots.{Slots}
 use Rattle.plain_model.specs.declared.event.Event.{Event}
@@ -10,7 +9,6 @@ use Rattle.plain_model.specs.Legal.{end}
 use Rattle.plain_model.specs.State.{Plain}
 use Rattle.latch_book.specs.Latches.{Latches}
 use Rattle.lock_book.specs.Locks.{Locks}
-use Rattle.rec_log.specs.Records.{Record}
 use Rattle.snap_pages.specs.Shown.{Shown, img}
 use Rattle.snap_pages.specs.Slots.{slots_of}
 use Rattle.open_work.specs.Open.{Parts, settled, alone, before}

@@ -1,15 +1,13 @@
 -- What a step of one session leaves to the others, and what it has to show.
-use Rattle.std.specs.Prelude.{ℕ, ◌≡◌, ◌≢◌, ◌⊎◌, ◌<◌, ◌≤◌, true, List, length, Option, Some, None}
+use Rattle.std.specs.Prelude.{ℕ, ◌≡◌, ◌≢◌, ◌⊎◌, ◌<◌, ◌≤◌, true, List, length, Some}
 use Rattle.page_base.specs.declared.numbers.PageId.{PageId}
 use Rattle.page_base.specs.declared.numbers.SnapNo.{SnapNo}
-use Rattle.latch_book.specs.declared.latch.Latch.{Latch}
 use Rattle.latch_book.specs.Latches.{latch_of}
 use Rattle.plain_model.specs.State.{session, see, copy}
 use Rattle.snap_pages.specs.Cuts.{place_of, is_open_by, marked_by, sparse_by, is_sound_by, owed_by}
-use Rattle.snap_pages.specs.Shown.{Shown, catalog, counts, img}
+use Rattle.snap_pages.specs.Shown.{catalog, counts, img}
 use Rattle.snap_pages.specs.Views.{IsKept, view}
 use Rattle.sys_cat.specs.declared.desc.TableDesc.{TableDesc}
-use Rattle.step_words.specs.Seats.{Seated}
 use Rattle.step_state.specs.State.{State, IsSession, sess, seat, machine, alone_of, before_of}
 use Rattle.step_state.specs.Holding.{lock_at}
 use Rattle.step_state.specs.Snapshots.{HoldsEx, IsKeptBy, name_by, page_read}

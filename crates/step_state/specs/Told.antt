@@ -42,7 +42,7 @@ use Rattle.step_words.specs.declared.stage.Stage.TheVariants.{End}
 use Rattle.step_words.specs.Courses.{Course, is_planned}
 use Rattle.step_words.specs.Sittings.{stmt_at, undoes_all}
 use Rattle.step_words.specs.Seats.{Seated, Gathered}
-use Rattle.step_state.specs.State.{State, seat, machine, slots_at, settled_of, alone_of, before_of}
+use Rattle.step_state.specs.State.{State, seat, machine, settled_of, alone_of, before_of}
 use Rattle.step_state.specs.Holding.{holds_all, writes, lock_at, lock_named}
 use Rattle.step_state.specs.Plans.{IsPlanned}
 

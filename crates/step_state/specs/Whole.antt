@@ -5,7 +5,7 @@ use Rattle.page_base.specs.declared.numbers.SnapNo.{SnapNo}
 use Rattle.page_base.specs.Pages.{is_page}
 use Rattle.latch_book.specs.Latches.{IsLatchBook}
 use Rattle.lock_book.specs.Locks.{IsLockBook}
-use Rattle.plain_model.specs.State.{Plain, Snap as PlainSnap, master}
+use Rattle.plain_model.specs.State.{Snap as PlainSnap, master}
 use Rattle.snap_cat.specs.declared.snapshot.SnapState.{SnapState}
 use Rattle.snap_cat.specs.declared.snapshot.SnapState.TheVariants.{Making, Online, Suspect}
 use Rattle.snap_cat.specs.Catalog.{Snap, IsCatalog, snap_at}
@@ -65,6 +65,7 @@ pub record IsWholeSafe (e : State) : Type 0 where
   pub locks : IsLockBook e.locks
   pub sessions : length e.seats ≡ length e.fixed.scripts
   pub few : length e.seats ≤ 64
+  pub named : e.fixed.opening.source ≢ master
   -- the pins are those that are due
   pub pinned : (p : PageId) → pins e.pages p ≡ due_pins e p
   -- a snapshot that is in use owes nothing

@@ -1,0 +1,73 @@
+-- The steps that answer: at once, by what a course has found, or once records were taken back.
+use Rattle.std.specs.Prelude.{ℕ, ◌≡◌, ◌⊎◌, Option, Some, None, remove}
+use Rattle.page_base.specs.declared.numbers.SnapNo.{SnapNo}
+use Rattle.latch_book.specs.Latches.{without_latch}
+use Rattle.buf_pool.specs.Steps.{SameShown}
+use Rattle.plain_model.specs.declared.reply.Reply.{Reply}
+use Rattle.plain_model.specs.declared.reply.Reply.TheVariants.{Ok, Msg}
+use Rattle.plain_model.specs.declared.reply.Message.{Message}
+use Rattle.plain_model.specs.declared.stmt.Stmt.{Stmt}
+use Rattle.snap_cat.specs.Catalog.{without, with_state}
+use Rattle.snap_cat.specs.declared.snapshot.SnapState.TheVariants.{Making, Online, Suspect}
+use Rattle.snap_pages.specs.Cuts.{place_of, GoesBy}
+use Rattle.snap_pages.specs.Owed.{without_pins_of}
+use Rattle.snap_pages.specs.Shown.{Shown, catalog, pins, state_of, owes_of, with_catalog}
+use Rattle.snap_pages.specs.Views.{ClosesUp}
+use Rattle.step_words.specs.declared.point.Point.TheVariants.{Start, Say, Heal}
+use Rattle.step_words.specs.Courses.{Course}
+use Rattle.step_words.specs.Sittings.{Sitting, stmt_at}
+use Rattle.step_words.specs.Seats.{Seated, Free}
+use Rattle.step_state.specs.State.{State, sess, seat}
+use Rattle.safe_say.specs.Answering.{Answers}
+
+-- the reply that waits, or the course's, or that all went well
+abbrev pub course_reply : Option Course → Option Reply
+course_reply None = Some Ok
+course_reply (Some c) = c.reply
+
+abbrev pub reply_at : Sitting → Option Reply
+reply_at s = by s.waiting
+  where
+    by : Option Reply → Option Reply
+    by None = course_reply s.course
+    by (Some reply) = Some reply
+
+-- a snapshot is taken out, with what it owes
+pub record TakesOut (old new : Shown) (cut : ℕ) (n : SnapNo) : Type 0 where
+  pub its : place_of old cut ≡ Some n
+  pub cat : catalog new ≡ without (catalog old) n
+  pub sets : new.sets ≡ remove old.sets n.0
+  pub pinned : pins new ≡ without_pins_of (owes_of old n) (pins old)
+  pub shown : SameShown old.pool new.pool
+  pub cuts : GoesBy cut old new
+  pub views : ClosesUp n old new
+
+-- what becomes of the snapshot in its making: with a success it may be used; a refused one is taken out. One that has turned
+-- suspect stays, and is answered for as such.
+pub data Makes (old new : Shown) (x : Seated) : Reply → Type 0 where
+  MakesNone : (reply : Reply) → x.making ≡ None → new ≡ old → Makes old new x reply
+  Comes : (cut : ℕ) (n : SnapNo) → x.making ≡ Some cut → place_of old cut ≡ Some n → state_of old n ≡ Making → new ≡ with_catalog old (with_state (catalog old) n Online) → Makes old new x Ok
+  Stays : (cut : ℕ) (n : SnapNo) (reply : Reply) → x.making ≡ Some cut → place_of old cut ≡ Some n → state_of old n ≡ Suspect → new ≡ old → Makes old new x reply
+  Goes : (cut : ℕ) (n : SnapNo) (m : Message) → x.making ≡ Some cut → TakesOut old new cut n → Makes old new x (Msg m)
+
+-- it answers, and gives back a latch that it still holds
+pub record DoesSay (e s : State) (k : ℕ) : Type 0 where
+  -- where it stands to answer, or heals a snapshot that has turned suspect
+  pub at : ((seat e k).sitting.point ≡ Say) ⊎ ((seat e k).sitting.point ≡ Heal)
+  pub healing : (seat e k).sitting.point ≡ Heal → (cut : ℕ) (n : SnapNo) → (seat e k).making ≡ Some cut → place_of e.pages cut ≡ Some n → state_of e.pages n ≡ Suspect
+  pub reply : Reply
+  pub which : reply_at (seat e k).sitting ≡ Some reply
+  pub answers : Answers e s k (record (seat e k) { hold = Free }) (stmt_at (seat e k).sitting) reply
+  pub makes : Makes e.pages s.pages (seat e k) reply
+  pub latches : s.latches ≡ without_latch e.latches (sess k)
+
+-- a statement that needs no page and no lock, or is refused before it needs any, is answered as it begins; the history's
+-- length is its beginning
+pub record DoesAnswer (e s : State) (k : ℕ) (began : ℕ) : Type 0 where
+  pub at : (seat e k).sitting.point ≡ Start
+  pub stmt : Stmt
+  pub has : stmt_at (seat e k).sitting ≡ Some stmt
+  pub reply : Reply
+  pub answers : Answers e s k (record (seat e k) { began = began }) (Some stmt) reply
+  pub pages : s.pages ≡ e.pages
+  pub latches : s.latches ≡ e.latches
