@@ -1,6 +1,6 @@
 -- What is left to do where snapshots and the number of pages stay.
-use Rattle.std.proofs.Common.{◌≡◌, ℕ, ◌+◌, ◌-◌, ◌*◌, ◌<◌, List, length, ap, refl, sym, subst, ◌∙◌, arith}
-use Rattle.std.specs.Prelude.{Option, Some, None, not, sum_by}
+use Rattle.std.proofs.Common.{◌≡◌, ℕ, ◌+◌, ◌*◌, ◌<◌, List, length, ap, refl, sym, subst, ◌∙◌, arith}
+use Rattle.std.specs.Prelude.{Option, Some, None, not, sum_by, ◌&&◌}
 use Rattle.sparse_set.specs.Sparse.{Sparse, is_copied}
 use Rattle.buf_pool.specs.Pool.{Pooled}
 use Rattle.snap_pages.specs.Shown.{Shown, counts, set_of}
@@ -11,7 +11,7 @@ use Rattle.step_words.specs.declared.stage.Stage.{Stage}
 use Rattle.step_words.specs.Courses.{Course}
 use Rattle.step_words.specs.Seats.{Seated, Grip, with_seat}
 use Rattle.step_state.specs.State.{State, IsSession, seat}
-use Rattle.step_trail.specs.Counting.{all_pages, count_pages}
+use Rattle.step_trail.specs.Counting.{all_pages, count_pages, was_gathered}
 use Rattle.step_trail.specs.Togo.{course_left, heals_left, mark_left, point_left, sound, stage_left, togo, unmapped}
 use Rattle.step_trail.specs.Left.{Lowers, left_said, left_planned}
 use Rattle.step_trail.proofs.LowerLemmas.{lowers_by_stepping}
@@ -31,7 +31,7 @@ module _ (v : Shown) (p : Pooled) (same : p.files.counts ≡ v.pool.files.counts
   point_same : (x : Seated) (q : Point) → point_left w x q ≡ point_left v x q
   point_same x Start = ap (λ (n : List ℕ). 5 * all_pages n + 6) same
   point_same x Cut = ap (λ (n : List ℕ). 2 * all_pages n + 2) same
-  point_same x Gather = ap (λ (n : List ℕ). (count_pages n (is_copied (set_of v (record { 0 = 0 }))) - length x.gathered) + 2) same
+  point_same x Gather = ap (λ (n : List ℕ). count_pages n (λ q. is_copied (set_of v (record { 0 = 0 })) q && not (was_gathered x.gathered q)) + 2) same
   point_same x Heal = heal_same x.making x.hold
   point_same x q = refl
 
