@@ -12,3 +12,4 @@ pub mod LowerLemmas
 pub mod AnswerLemmas
 pub mod ReachLemmas
 pub mod TraceLemmas
+pub mod PlaceLemmas

@@ -15,13 +15,14 @@ use Rattle.snap_pages.specs.Cuts.{marked_by, is_sound_by}
 use Rattle.snap_pages.specs.Dues.{next_due}
 use Rattle.snap_pages.specs.Shown.{Shown, img}
 use Rattle.step_words.specs.declared.point.Point.{Point}
-use Rattle.step_words.specs.declared.point.Point.TheVariants.{Start, Latch, Take, Claim, Change, Undo, Heal, Gone}
+use Rattle.step_words.specs.declared.point.Point.TheVariants.{Start, Latch, Take, Claim, Change, Undo, Heal, Gone, Gather}
 use Rattle.step_words.specs.Sittings.{stmt_at}
 use Rattle.step_words.specs.Seats.{Seated, Grip, Free, Latched, Fetched, latch_at}
 use Rattle.step_state.specs.Own.{is_gone}
 use Rattle.step_state.specs.Posed.{FitsGrip}
 use Rattle.step_state.specs.Safe.{Safe}
 use Rattle.step_state.specs.State.{State, IsSession, sess, seat}
+use Rattle.step_trail.specs.Counting.{ungathered}
 use Rattle.step_trail.specs.Next.{once_pushed, has_free, kind_claiming, kind_undoing, healed, kind_healing, kind_making, kind_at, kind_of}
 
 -- once a statement is left, or not
@@ -31,10 +32,17 @@ start_has_kind v x e = elim (cases_Bool (is_some (stmt_at x.sitting))) [
   | inr none ↦ (let h = rw none at e in cc)
 ]
 
+gather_has_kind : (v : Shown) (x : Seated) → kind_at v x Gather ≢ None
+gather_has_kind v x e = elim (cases_Bool (ungathered v x.gathered == 0)) [
+  | inl done ↦ (let h = rw done at e in cc)
+  | inr more ↦ (let h = rw more at e in cc)
+]
+
 pub none_only_gone : (v : Shown) (x : Seated) (p : Point) → kind_at v x p ≡ None → is_gone p ≡ true
 none_only_gone v x Start e = absurd (start_has_kind v x e)
 none_only_gone v x (Take page true) e = absurd (cc)
 none_only_gone v x (Take page false) e = absurd (cc)
+none_only_gone v x Gather e = absurd (gather_has_kind v x e)
 none_only_gone v x Gone e = refl
 none_only_gone v x p e = absurd (cc)
 
@@ -92,6 +100,7 @@ latch_free v x (Claim owner) found fits e = claim_free v x.copied x.hold (of_som
 latch_free v x (Change page) found fits e = absurd (pushed_no_latch v x.copied page step.Change (λ (is : step.Change ≡ step.Latch). cc) (of_some (once_pushed v x.copied page step.Change) step.Latch e))
 latch_free v x (Undo all) found fits e = undo_free v x.copied x.hold (of_some (kind_undoing v x.copied x.hold) step.Latch e)
 latch_free v x Heal found fits e = make_free v x x.making (of_some (kind_making v x x.making) step.Latch e)
+latch_free v x Gather found fits e = fits
 latch_free v x p found fits e = absurd (cc)
 
 pub latch_holds_none : (e : State) (k : ℕ) → Safe e → IsSession e k → kind_of e k ≡ Some step.Latch → (seat e k).hold ≡ Free

@@ -1,6 +1,6 @@
 -- Whichever kind the next step of a session is, it may stand behind its last one.
 use Rattle.std.proofs.Common.{◌≡◌, ◌≢◌, ◌⊎◌, inl, inr, ℕ, Bool, true, false, ◌||◌, List, [], ◌∷◌, refl, ap, sym, subst}
-use Rattle.std.specs.Prelude.{Option, Some, None, is_some, not}
+use Rattle.std.specs.Prelude.{Option, Some, None, is_some, not, ◌==◌}
 use Rattle.std.specs.List.{list_all}
 use Rattle.std.proofs.lemmas.Bool.{cases_Bool, and_parts}
 use Rattle.page_base.specs.declared.numbers.PageId.{PageId}
@@ -10,13 +10,15 @@ use Rattle.plain_model.specs.declared.kind.Kind.TheVariants as step
 use Rattle.snap_pages.specs.Cuts.{marked_by, is_sound_by}
 use Rattle.snap_pages.specs.Dues.{next_due}
 use Rattle.snap_pages.specs.Shown.{Shown, img}
+use Rattle.rec_log.specs.Records.{Record}
 use Rattle.step_words.specs.declared.point.Point.{Point}
 use Rattle.step_words.specs.declared.point.Point.TheVariants.{Start, Lock, Latch, Look, Fetch, Take, Plan, Claim, Change, Undo, Cut, Heal, Gather, Swap, Commit, Say, Leave, Gone}
 use Rattle.step_words.specs.Sittings.{stmt_at}
 use Rattle.step_words.specs.Seats.{Seated, Grip, Free, Latched, Fetched}
-use Rattle.step_trail.specs.Kinds.{is_kind, follows, follows_last}
+use Rattle.step_trail.specs.Kinds.{is_kind, follows, follows_last, may_say}
 use Rattle.step_trail.specs.Entries.{Phase, Between, Amid, Ending}
-use Rattle.step_trail.specs.Next.{once_pushed, has_free, kind_claiming, kind_undoing, healed, kind_healing, kind_making, kind_at}
+use Rattle.step_trail.specs.Counting.{ungathered}
+use Rattle.step_trail.specs.Next.{once_pushed, has_free, kind_claiming, kind_undoing, healed, kind_healing, kind_making, kind_at, kind_ending}
 use Rattle.step_trail.specs.Reached.{among, came_pushing, came_claiming, came_undoing, came_healing, came_to, is_between, is_amid, is_ending, is_start, stands_in, undoes_in, StaysFree, StaysLacking, IsReached}
 use Rattle.step_trail.specs.Walked.{fits_phase}
 use Rattle.step_trail.proofs.KindLemmas.{kinds_apart}
@@ -33,6 +35,13 @@ listed b (x ∷ xs) all a is = elim (cases_Bool (is_kind a x)) [
 -- where a statement may begin the session may leave
 leave_too : (a : Kind) → (not (follows a step.Start) || follows a step.Leave) ≡ true
 leave_too = elim [
+  | step.Start ↦ refl
+  | other ↦ refl
+]
+
+-- and what it has written may go back
+latch_too : (a : Kind) → (not (follows a step.Start) || follows a step.Latch) ≡ true
+latch_too = elim [
   | step.Start ↦ refl
   | other ↦ refl
 ]
@@ -120,10 +129,14 @@ make_follows v x (Some cut) a b came lacks e = elim (cases_Bool (is_sound_by v c
 just : (a c b : Kind) → follows a c ≡ true → Some c ≡ Some b → follows a b ≡ true
 just a c b is e = subst (λ (k : Kind). follows a k ≡ true) (of_some c b e) is
 
+end_follows : (records : List Record) (a b : Kind) → may_say a ≡ true → Some (kind_ending records) ≡ Some b → follows a b ≡ true
+end_follows [] a b came e = just a step.Leave b (implied (follows a step.Start) (follows a step.Leave) (leave_too a) came) e
+end_follows (r ∷ rs) a b came e = just a step.Latch b (implied (follows a step.Start) (follows a step.Latch) (latch_too a) came) e
+
 pub next_follows : (v : Shown) (x : Seated) (p : Point) (a b : Kind) → came_to p x.hold x.copied a ≡ true → StaysFree v p x.hold a → (x.copied ≡ None → StaysLacking v p x.making x.hold a) → kind_at v x p ≡ Some b → follows a b ≡ true
 next_follows v x Start a b came free lacks e = elim (cases_Bool (is_some (stmt_at x.sitting))) [
   | inl more ↦ just a step.Start b came (rw more at e)
-  | inr none ↦ just a step.Leave b (implied (follows a step.Start) (follows a step.Leave) (leave_too a) came) (rw none at e)
+  | inr none ↦ end_follows x.work.recs a b came (rw none at e)
 ]
 next_follows v x (Lock table number mode) a b came free lacks e = just a step.Lock b (listed step.Lock (step.Start ∷ step.Seek ∷ step.Read ∷ []) refl a came) e
 next_follows v x (Latch page false) a b came free lacks e = just a step.Latch b (listed step.Latch (step.Start ∷ step.Lock ∷ step.Seek ∷ step.Read ∷ []) refl a came) e
@@ -138,7 +151,10 @@ next_follows v x (Change page) a b came free lacks e = push_follows step.Fetch s
 next_follows v x (Undo all) a b came free lacks e = undo_follows v x.copied x.hold a b came (of_some (kind_undoing v x.copied x.hold) b e)
 next_follows v x Cut a b came free lacks e = just a step.Cut b (listed step.Cut (step.Start ∷ []) refl a came) e
 next_follows v x Heal a b came free lacks e = make_follows v x x.making a b came lacks (of_some (kind_making v x x.making) b e)
-next_follows v x Gather a b came free lacks e = just a step.Gather b (listed step.Gather (step.Start ∷ step.Gather ∷ []) refl a came) e
+next_follows v x Gather a b came free lacks e = elim (cases_Bool (ungathered v x.gathered == 0)) [
+  | inl done ↦ just a step.Swap b (listed step.Swap (step.Start ∷ step.Gather ∷ []) refl a came) (rw done at e)
+  | inr more ↦ just a step.Gather b (listed step.Gather (step.Start ∷ step.Gather ∷ []) refl a came) (rw more at e)
+]
 next_follows v x Swap a b came free lacks e = just a step.Swap b (listed step.Swap (step.Start ∷ step.Gather ∷ []) refl a came) e
 next_follows v x Commit a b came free lacks e = just a step.Commit b (listed step.Commit (step.Start ∷ step.Plan ∷ step.Claim ∷ step.Change ∷ []) refl a came) e
 next_follows v x Say a b came free lacks e = just a step.Say b came e
@@ -212,17 +228,33 @@ leave_fits Between e = refl
 leave_fits Ending e = refl
 leave_fits Amid e = absurd (cc)
 
-start_fits : (phase : Phase) (b : Kind) → is_between phase ≡ true → (b ≡ step.Start) ⊎ (b ≡ step.Leave) → fits_phase phase b ≡ true
+start_fits : (phase : Phase) (b : Kind) → is_between phase ≡ true → (b ≡ step.Start) ⊎ ((b ≡ step.Leave) ⊎ (b ≡ step.Latch)) → fits_phase phase b ≡ true
 start_fits Between b e (inl is) = subst (λ (k : Kind). fits_phase Between k ≡ true) (sym is) refl
-start_fits Between b e (inr is) = subst (λ (k : Kind). fits_phase Between k ≡ true) (sym is) refl
+start_fits Between b e (inr (inl is)) = subst (λ (k : Kind). fits_phase Between k ≡ true) (sym is) refl
+start_fits Between b e (inr (inr is)) = subst (λ (k : Kind). fits_phase Between k ≡ true) (sym is) refl
 start_fits Amid b e is = absurd (cc)
 start_fits Ending b e is = absurd (cc)
 
--- at its start a session takes a statement, or leaves
-first_step : (v : Shown) (x : Seated) (b : Kind) → kind_at v x Start ≡ Some b → (b ≡ step.Start) ⊎ (b ≡ step.Leave)
+end_step : (records : List Record) (b : Kind) → Some (kind_ending records) ≡ Some b → (b ≡ step.Start) ⊎ ((b ≡ step.Leave) ⊎ (b ≡ step.Latch))
+end_step [] b e = inr (inl (sym (of_some step.Leave b e)))
+end_step (r ∷ rs) b e = inr (inr (sym (of_some step.Latch b e)))
+
+-- at its start a session takes a statement, or ends
+first_step : (v : Shown) (x : Seated) (b : Kind) → kind_at v x Start ≡ Some b → (b ≡ step.Start) ⊎ ((b ≡ step.Leave) ⊎ (b ≡ step.Latch))
 first_step v x b e = elim (cases_Bool (is_some (stmt_at x.sitting))) [
   | inl more ↦ inl (sym (of_some step.Start b (rw more at e)))
-  | inr none ↦ inr (sym (of_some step.Leave b (rw none at e)))
+  | inr none ↦ end_step x.work.recs b (rw none at e)
+]
+
+-- and where it has written nothing it takes one, or leaves
+fresh_end : (records : List Record) (b : Kind) → records ≡ [] → Some (kind_ending records) ≡ Some b → (b ≡ step.Start) ⊎ (b ≡ step.Leave)
+fresh_end [] b none e = inr (sym (of_some step.Leave b e))
+fresh_end (r ∷ rs) b none e = absurd (cc)
+
+fresh_step : (v : Shown) (x : Seated) (b : Kind) → x.work.recs ≡ [] → kind_at v x Start ≡ Some b → (b ≡ step.Start) ⊎ (b ≡ step.Leave)
+fresh_step v x b empty e = elim (cases_Bool (is_some (stmt_at x.sitting))) [
+  | inl more ↦ inl (sym (of_some step.Start b (rw more at e)))
+  | inr none ↦ fresh_end x.work.recs b empty (rw none at e)
 ]
 
 pub next_fits : (v : Shown) (x : Seated) (p : Point) (phase : Phase) (b : Kind) → stands_in p (is_some (stmt_at x.sitting)) x.hold phase ≡ true → kind_at v x p ≡ Some b → fits_phase phase b ≡ true
@@ -239,7 +271,10 @@ next_fits v x (Change page) phase b fits e = inner phase (once_pushed v x.copied
 next_fits v x (Undo all) phase b fits e = undo_fits v (is_some (stmt_at x.sitting)) x.copied x.hold phase b fits (of_some (kind_undoing v x.copied x.hold) b e)
 next_fits v x Cut phase b fits e = inner phase step.Cut b fits refl e
 next_fits v x Heal phase b fits e = inner phase (kind_making v x x.making) b fits (make_inner v x x.making) e
-next_fits v x Gather phase b fits e = inner phase step.Gather b fits refl e
+next_fits v x Gather phase b fits e = elim (cases_Bool (ungathered v x.gathered == 0)) [
+  | inl done ↦ inner phase step.Swap b fits refl (rw done at e)
+  | inr more ↦ inner phase step.Gather b fits refl (rw more at e)
+]
 next_fits v x Swap phase b fits e = inner phase step.Swap b fits refl e
 next_fits v x Commit phase b fits e = inner phase step.Commit b fits refl e
 next_fits v x Say phase b fits e = inner phase step.Say b fits refl e
@@ -255,7 +290,7 @@ reached_next v None phase x b is e = (first is.came e, next_fits v x x.sitting.p
     begins k (inr same) = subst (λ (c : Kind). follows_last None c ≡ true) (sym same) refl
 
     only : (p : Point) → is_start p ≡ true → kind_at v x p ≡ Some b → follows_last None b ≡ true
-    only Start yes_start at = begins b (first_step v x b at)
+    only Start yes_start at = begins b (fresh_step v x b (is.fresh refl) at)
     only p other at = absurd (cc)
 
     first : is_start x.sitting.point ≡ true → kind_at v x x.sitting.point ≡ Some b → follows_last None b ≡ true

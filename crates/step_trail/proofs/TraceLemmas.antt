@@ -126,6 +126,7 @@ pub reached_kept : (v w : Shown) (last : Option Kind) (phase : Phase) (x : Seate
 reached_kept v w last phase x same is = record {
   came = is.came;
   stands = is.stands;
+  fresh = is.fresh;
   free = λ a at. free_kept v w x x.sitting.point x.hold a refl same (is.free a at);
   lacks = λ a at none. lacks_kept v w x x.sitting.point x.making x.hold a refl refl same (is.lacks a at none);
 }
@@ -352,6 +353,7 @@ traced_none e fresh = record {
     reached = record {
       came = ap (λ (p : Point). is_start p) (fresh.starts k is);
       stands = subst (λ (p : Point). stands_in p (is_some (stmt_at (seat e k).sitting)) (seat e k).hold Between ≡ true) (sym (fresh.starts k is)) refl;
+      fresh = λ none. fresh.empty k is;
       free = λ a none. absurd (cc);
       lacks = λ a none copied. absurd (cc);
     };

@@ -1,9 +1,12 @@
 -- How many pages of some files pass a test.
-use Rattle.std.specs.Prelude.{ℕ, zero, suc, ◌≡◌, ◌+◌, ◌/◌, Bool, true, false, not, nat_lt, if◌then◌else◌, List, [], ◌∷◌, length, sum_by}
+use Rattle.std.specs.Prelude.{ℕ, zero, suc, ◌≡◌, ◌+◌, ◌/◌, Bool, true, false, not, ◌&&◌, nat_lt, if◌then◌else◌, List, [], ◌∷◌, length, sum_by}
 use Rattle.std.specs.List.{list_any}
 use Rattle.page_base.specs.declared.numbers.PageId.{PageId}
 use Rattle.page_base.specs.Pages.{is_page}
 use Rattle.page_fmt.specs.Seen.{Looked, place_of}
+use Rattle.sparse_set.specs.Sparse.{is_copied}
+use Rattle.snap_pages.specs.Shown.{Shown, counts, set_of}
+use Rattle.step_words.specs.Seats.{Gathered}
 
 -- of the first pages of one file, so many
 abbrev pub pages_in : (PageId → Bool) → ℕ → ℕ → ℕ
@@ -37,3 +40,10 @@ is_in ps q = list_any (λ (p : PageId). is_page p q) ps
 abbrev pub AreApart : List PageId → Type 0
 AreApart [] = Unit {0}
 AreApart (p ∷ ps) = (is_in ps p ≡ false) × AreApart ps
+
+-- how many pages the one snapshot has that weren't gathered for a revert
+abbrev pub was_gathered : List Gathered → PageId → Bool
+was_gathered gathered p = list_any (λ (g : Gathered). is_page g.page p) gathered
+
+abbrev pub ungathered : Shown → List Gathered → ℕ
+ungathered v gathered = count_pages (counts v) (λ p. is_copied (set_of v (record { 0 = 0 })) p && not (was_gathered gathered p))

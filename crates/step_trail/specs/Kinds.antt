@@ -72,10 +72,10 @@ behind Change = Commit ∷ Say ∷ at_next
 behind Back = Latch ∷ Say ∷ Leave ∷ []
 behind Heal = Latch ∷ Say ∷ []
 -- the first heal, or the reply
-behind Cut = Latch ∷ Say ∷ at_first
--- a revert stands outside transactions, so nothing goes back behind it
-behind Gather = Gather ∷ Swap ∷ Say ∷ at_first
-behind Swap = at_first
+behind Cut = Say ∷ at_next
+-- the next page, or the revert once all are gathered
+behind Gather = Gather ∷ Swap ∷ Say ∷ at_next
+behind Swap = at_next
 -- after a failure of the log the whole transaction goes back
 behind Commit = at_next
 behind Say = at_next

@@ -1,5 +1,5 @@
 -- Which kind the next step of a session is: by its point, by what it holds, and by the snapshots that lack its page.
-use Rattle.std.specs.Prelude.{ℕ, zero, suc, Bool, true, false, ◌==◌, if◌then◌else◌, List, Option, Some, None, is_some}
+use Rattle.std.specs.Prelude.{ℕ, zero, suc, Bool, true, false, ◌==◌, if◌then◌else◌, List, Option, Some, None, is_some, [], ◌∷◌}
 use Rattle.std.specs.List.{list_any, list_all}
 use Rattle.page_base.specs.declared.numbers.PageId.{PageId}
 use Rattle.page_fmt.specs.Content.{content}
@@ -9,12 +9,14 @@ use Rattle.plain_model.specs.declared.kind.Kind.TheVariants as step
 use Rattle.snap_pages.specs.Cuts.{marked_by, is_sound_by}
 use Rattle.snap_pages.specs.Dues.{next_due}
 use Rattle.snap_pages.specs.Shown.{Shown, img}
+use Rattle.rec_log.specs.Records.{Record}
 use Rattle.step_words.specs.declared.point.Point.{Point}
 use Rattle.step_words.specs.declared.point.Point.TheVariants.{Start, Lock, Latch, Look, Fetch, Take, Plan, Claim, Change, Undo, Cut, Heal, Gather, Swap, Commit, Say, Leave, Gone}
 use Rattle.step_words.specs.Sittings.{stmt_at}
 use Rattle.step_words.specs.Seats.{Seated, Grip, Free, Latched, Fetched}
 use Rattle.step_state.specs.Own.{is_gone}
 use Rattle.step_state.specs.State.{State, seat}
+use Rattle.step_trail.specs.Counting.{ungathered}
 
 -- a step of this kind on the page, once the page was copied to each snapshot that needs it
 abbrev pub once_pushed : Shown → Option ℕ → PageId → Kind → Kind
@@ -53,8 +55,13 @@ abbrev pub kind_making : Shown → Seated → Option ℕ → Kind
 kind_making v x None = step.Say
 kind_making v x (Some cut) = if is_sound_by v cut then kind_healing v x.copied cut x.hold else step.Say
 
+-- where no statement is left: what the session has written goes back, and then it leaves
+abbrev pub kind_ending : List Record → Kind
+kind_ending [] = step.Leave
+kind_ending (r ∷ rs) = step.Latch
+
 abbrev pub kind_at : Shown → Seated → Point → Option Kind
-kind_at v x Start = if is_some (stmt_at x.sitting) then Some step.Start else Some step.Leave
+kind_at v x Start = if is_some (stmt_at x.sitting) then Some step.Start else Some (kind_ending x.work.recs)
 kind_at v x (Lock table number mode) = Some step.Lock
 kind_at v x (Latch page ex) = Some step.Latch
 kind_at v x (Look page) = Some step.Look
@@ -67,7 +74,7 @@ kind_at v x (Change page) = Some (once_pushed v x.copied page step.Change)
 kind_at v x (Undo all) = Some (kind_undoing v x.copied x.hold)
 kind_at v x Cut = Some step.Cut
 kind_at v x Heal = Some (kind_making v x x.making)
-kind_at v x Gather = Some step.Gather
+kind_at v x Gather = if ungathered v x.gathered == 0 then Some step.Swap else Some step.Gather
 kind_at v x Swap = Some step.Swap
 kind_at v x Commit = Some step.Commit
 kind_at v x Say = Some step.Say

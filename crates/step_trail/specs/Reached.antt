@@ -115,6 +115,8 @@ StaysLacking v point making hold a = Unit {0}
 pub record IsReached (v : Shown) (last : Option Kind) (phase : Phase) (x : Seated) : Type 0 where
   pub came : came_by last x.sitting.point x.hold x.copied ≡ true
   pub stands : stands_in x.sitting.point (is_some (stmt_at x.sitting)) x.hold phase ≡ true
+  -- before its first step it has written nothing
+  pub fresh : last ≡ None → x.work.recs ≡ []
   pub free : (a : Kind) → last ≡ Some a → StaysFree v x.sitting.point x.hold a
   pub lacks : (a : Kind) → last ≡ Some a → x.copied ≡ None → StaysLacking v x.sitting.point x.making x.hold a
 

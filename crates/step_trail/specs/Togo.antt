@@ -5,14 +5,14 @@ use Rattle.sparse_set.specs.Sparse.{Sparse, is_copied}
 use Rattle.snap_cat.specs.Catalog.{Snap}
 use Rattle.snap_pages.specs.Cuts.{is_open_by, is_sound_by, owed_by}
 use Rattle.snap_pages.specs.Dues.{is_sound}
-use Rattle.snap_pages.specs.Shown.{Shown, catalog, counts, set_of}
+use Rattle.snap_pages.specs.Shown.{Shown, catalog, counts}
 use Rattle.step_words.specs.declared.point.Point.{Point}
 use Rattle.step_words.specs.declared.point.Point.TheVariants.{Start, Latch, Look, Fetch, Take, Undo, Cut, Heal, Gather, Swap, Commit, Say, Leave}
 use Rattle.step_words.specs.declared.stage.Stage.{Stage}
 use Rattle.step_words.specs.declared.stage.Stage.TheVariants.{AskAll, ScanZero, AskTable, Scan, Plan, Claim, Edit, End}
 use Rattle.step_words.specs.Courses.{Course}
 use Rattle.step_words.specs.Seats.{Seated, Grip, Free, Latched, Fetched}
-use Rattle.step_trail.specs.Counting.{all_pages, alloc_pages, count_pages, unread}
+use Rattle.step_trail.specs.Counting.{all_pages, alloc_pages, count_pages, ungathered, unread}
 
 -- how much of a visit is left, and of an edit
 abbrev pub visit_left : Point → ℕ
@@ -59,17 +59,13 @@ abbrev pub heals_left : Shown → Option ℕ → Grip → ℕ
 heals_left v None hold = 1
 heals_left v (Some cut) hold = if is_sound_by v cut then 1 + (3 * length (owed_by v cut) - grasp hold) else 1
 
--- the pages that the one snapshot has, of which a revert gathers each
-abbrev pub to_gather : Shown → ℕ
-to_gather v = count_pages (counts v) (is_copied (set_of v (record { 0 = 0 })))
-
 -- where no statement on tables is under way, by the point; before a cut all pages count, twice since each is copied and marked
 abbrev pub point_left : Shown → Seated → Point → ℕ
 point_left v x Start = 5 * all_pages (counts v) + 6
 point_left v x (Undo all) = 1 - grasp x.hold
 point_left v x Cut = 2 * all_pages (counts v) + 2
 point_left v x Heal = heals_left v x.making x.hold
-point_left v x Gather = (to_gather v - length x.gathered) + 2
+point_left v x Gather = ungathered v x.gathered + 2
 point_left v x Swap = 2
 point_left v x Commit = 2
 point_left v x Say = 1

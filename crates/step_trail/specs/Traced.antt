@@ -79,4 +79,5 @@ pub record Flushes (e s : State) (d : Did) : Type 0 where
 pub record AreFresh (e : State) : Type 0 where
   pub events : e.events ≡ []
   pub starts : (k : ℕ) → IsSession e k → (seat e k).sitting.point ≡ Start
+  pub empty : (k : ℕ) → IsSession e k → (seat e k).work.recs ≡ []
   pub calm : (k : ℕ) → IsSession e k → (seat e k).sitting.waiting ≡ None

@@ -16,6 +16,7 @@ ghost use Rattle.plain_model.specs.declared.pick.Pick.{Pick};
 ghost use Rattle.plain_model.specs.declared.reply.Message.{Message};
 ghost use Rattle.plain_model.specs.declared.reply.Reply.TheVariants as reply;
 ghost use Rattle.snap_pages.specs.Shown.{Shown};
+ghost use Rattle.snap_pages.specs.Steps.{SameSnaps};
 ghost use Rattle.step_words.specs.Seats.{Seated, Free, with_seat};
 ghost use Rattle.step_state.specs.Own.{is_gone};
 ghost use Rattle.step_state.specs.Safe.{Safe};
@@ -124,11 +125,13 @@ pub fn what_is_left_falls()
 {}
 
 /// A step that changes one session's seat leaves less to do where the session then has fewer statements to answer, or as many and
-/// fewer to plan, or as many of both and all in all fewer steps, of which no other session has more.
+/// fewer to plan, or as many of both and all in all fewer steps, of which no other session has more; where snapshots and the number
+/// of pages stay, its own steps are enough.
 pub fn a_step_leaves_less_to_do()
     ensures saying { (e s : State) (k : ℕ) (x : Seated) → IsSession e k → s.seats ≡ with_seat e.seats k x → left_said x.sitting < left_said (seat e k).sitting → Lowers e s }
     ensures planning { (e s : State) (k : ℕ) (x : Seated) → IsSession e k → s.seats ≡ with_seat e.seats k x → left_said x.sitting ≡ left_said (seat e k).sitting → left_planned x.sitting < left_planned (seat e k).sitting → Lowers e s }
     ensures stepping { (e s : State) (k : ℕ) (x : Seated) → IsSession e k → s.seats ≡ with_seat e.seats k x → left_said x.sitting ≡ left_said (seat e k).sitting → left_planned x.sitting ≡ left_planned (seat e k).sitting → ((j : ℕ) → IsSession e j → j ≢ k → togo s.pages (seat e j) ≤ togo e.pages (seat e j)) → 2 * unmapped s.pages + (sound s.pages + togo s.pages x) < 2 * unmapped e.pages + (sound e.pages + togo e.pages (seat e k)) → Lowers e s }
+    ensures in_place { (e s : State) (k : ℕ) (x : Seated) → IsSession e k → s.seats ≡ with_seat e.seats k x → SameSnaps e.pages s.pages → s.pages.pool.files.counts ≡ e.pages.pool.files.counts → left_said x.sitting ≡ left_said (seat e k).sitting → left_planned x.sitting ≡ left_planned (seat e k).sitting → togo e.pages x < togo e.pages (seat e k) → Lowers e s }
 {}
 
 /// Where one page less passes a test, one less is counted; and where no other passes, no more are.
