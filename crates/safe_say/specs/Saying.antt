@@ -1,5 +1,5 @@
 -- The steps that answer: at once, by what a course has found, or once records were taken back.
-use Rattle.std.specs.Prelude.{ℕ, ◌≡◌, ◌⊎◌, Option, Some, None, remove}
+use Rattle.std.specs.Prelude.{ℕ, ◌≡◌, ◌⊎◌, Option, Some, None, remove, true, false}
 use Rattle.page_base.specs.declared.numbers.SnapNo.{SnapNo}
 use Rattle.latch_book.specs.Latches.{without_latch}
 use Rattle.buf_pool.specs.Steps.{SameShown}
@@ -9,7 +9,7 @@ use Rattle.plain_model.specs.declared.reply.Message.{Message}
 use Rattle.plain_model.specs.declared.stmt.Stmt.{Stmt}
 use Rattle.snap_cat.specs.Catalog.{without, with_state}
 use Rattle.snap_cat.specs.declared.snapshot.SnapState.TheVariants.{Making, Online, Suspect}
-use Rattle.snap_pages.specs.Cuts.{place_of, GoesBy}
+use Rattle.snap_pages.specs.Cuts.{place_of, is_sound_by, GoesBy}
 use Rattle.snap_pages.specs.Owed.{without_pins_of}
 use Rattle.snap_pages.specs.Shown.{Shown, catalog, pins, state_of, owes_of, with_catalog}
 use Rattle.snap_pages.specs.Views.{ClosesUp}
@@ -20,17 +20,13 @@ use Rattle.step_words.specs.Seats.{Seated, Free}
 use Rattle.step_state.specs.State.{State, sess, seat}
 use Rattle.safe_say.specs.Answering.{Answers}
 
--- the reply that waits, or the course's, or that all went well
-abbrev pub course_reply : Option Course → Option Reply
-course_reply None = Some Ok
-course_reply (Some c) = c.reply
-
-abbrev pub reply_at : Sitting → Option Reply
-reply_at s = by s.waiting
-  where
-    by : Option Reply → Option Reply
-    by None = course_reply s.course
-    by (Some reply) = Some reply
+-- The reply that waits; else the course's; or that all went well, unless the snapshot in the making has turned suspect: then
+-- the plain machine tells which refusal it is.
+pub data IsReply (v : Shown) (x : Seated) : Reply → Type 0 where
+  Waited : (reply : Reply) → x.sitting.waiting ≡ Some reply → IsReply v x reply
+  OfCourse : (c : Course) (reply : Reply) → x.sitting.waiting ≡ None → x.sitting.course ≡ Some c → c.reply ≡ Some reply → IsReply v x reply
+  Succeeds : x.sitting.waiting ≡ None → x.sitting.course ≡ None → ((cut : ℕ) → x.making ≡ Some cut → is_sound_by v cut ≡ true) → IsReply v x Ok
+  Fails : (cut : ℕ) (m : Message) → x.sitting.waiting ≡ None → x.sitting.course ≡ None → x.making ≡ Some cut → is_sound_by v cut ≡ false → IsReply v x (Msg m)
 
 -- a snapshot is taken out, with what it owes
 pub record TakesOut (old new : Shown) (cut : ℕ) (n : SnapNo) : Type 0 where
@@ -56,7 +52,7 @@ pub record DoesSay (e s : State) (k : ℕ) : Type 0 where
   pub at : ((seat e k).sitting.point ≡ Say) ⊎ ((seat e k).sitting.point ≡ Heal)
   pub healing : (seat e k).sitting.point ≡ Heal → (cut : ℕ) (n : SnapNo) → (seat e k).making ≡ Some cut → place_of e.pages cut ≡ Some n → state_of e.pages n ≡ Suspect
   pub reply : Reply
-  pub which : reply_at (seat e k).sitting ≡ Some reply
+  pub which : IsReply e.pages (seat e k) reply
   pub answers : Answers e s k (record (seat e k) { hold = Free }) (stmt_at (seat e k).sitting) reply
   pub makes : Makes e.pages s.pages (seat e k) reply
   pub latches : s.latches ≡ without_latch e.latches (sess k)

@@ -49,7 +49,7 @@ module _ (e s : State) (k : ℕ) (safe : Safe e) (d : DoesCut e s k) where
 
   posed_now : IsPosed (counts e.pages) y
   posed_now = record {
-    grip = by_owed (λ t. FitsGrip t (seat e k).sitting.found (seat e k).hold) d.owed.recs (inl free_hold) tt;
+    grip = by_owed (λ t. FitsGrip t (seat e k).sitting.found (seat e k).hold) d.owed.recs free_hold tt;
     course = λ c at. absurd (no_course c at);
     changes = λ p at. absurd (by_owed (λ t. t ≡ Change p → ⊥) d.owed.recs (λ q. cc) (λ q. cc) at);
     commits = λ at. absurd (by_owed (λ t. t ≡ Commit → ⊥) d.owed.recs (λ q. cc) (λ q. cc) at);

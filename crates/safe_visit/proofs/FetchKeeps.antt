@@ -102,7 +102,7 @@ module _ (e s : State) (k : ℕ) (safe : Safe e) (d : DoesFetch e s k) where
     undoes = λ all at. absurd (step (λ old new. new ≡ Undo all → ⊥) (λ rows q. cc) (λ q. cc) (λ o q. cc) at);
     says = λ at. absurd (step (λ old new. new ≡ Say → ⊥) (λ rows q. cc) (λ q. cc) (λ o q. cc) at);
     makes = λ f. me.seated.posed.makes (step (λ old new. is_making old ≡ false) (λ rows. refl) refl (λ o. refl));
-    unlatched = λ some at. (let wrong : Fetched d.page d.mode ≡ Free = at in cc);
+    unlatched = λ some. (let old = me.seated.posed.unlatched some in (old.0, sym latch_same ∙ old.1));
   }
 
   seated_now : IsSeated files_e y (latch_of e.latches (sess k)) (lock_at e k)

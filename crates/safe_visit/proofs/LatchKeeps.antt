@@ -1,5 +1,5 @@
 -- A latch that is taken leaves to others what it owes them, and shows the rest.
-use Rattle.std.proofs.Common.{◌≡◌, ℕ, ◌+◌, Bool, true, false, List, [], ◌∷◌, ◌++◌, refl, ap, sym, subst, ◌∙◌, inl, inr, arith, map}
+use Rattle.std.proofs.Common.{◌≡◌, ℕ, ◌+◌, Bool, true, false, List, [], ◌∷◌, ◌++◌, refl, ap, sym, subst, ◌∙◌, inl, inr, arith, map, Option}
 use Rattle.std.specs.Prelude.{Some, None}
 use Rattle.page_base.specs.declared.numbers.PageId.{PageId}
 use Rattle.page_base.specs.declared.numbers.SessNo.{SessNo}
@@ -22,7 +22,7 @@ use Rattle.step_words.specs.declared.stage.Stage.{Stage}
 use Rattle.step_words.specs.declared.stage.Stage.TheVariants.{AskAll, ScanZero, AskTable, Scan, Plan, Claim as Claiming, Edit as Editing, End}
 use Rattle.step_words.specs.Courses.{Course, is_past_all}
 use Rattle.step_words.specs.Sittings.{stmt_at, undoes_all}
-use Rattle.step_words.specs.Seats.{Seated, Grip, Free, Latched}
+use Rattle.step_words.specs.Seats.{latch_at, Seated, Grip, Free, Latched}
 use Rattle.step_state.specs.State.{State, sess, seat, machine, alone_of, before_of}
 use Rattle.step_state.specs.Holding.{lock_at}
 use Rattle.step_state.specs.Posed.{FitsGrip, lacks_course, lacks_work, is_making, IsIn, IsOnCourse, IsPosed}
@@ -73,7 +73,14 @@ module _ (e s : State) (k : ℕ) (safe : Safe e) (d : DoesLatch e s k) where
   is_latcher = record { first = d.moves.is.first; last = omega (arith, d.moves.is.last, safe.whole.few) }
 
   none_copied : (c : ℕ) → (seat e k).copied ≡ Some c → ⊥
-  none_copied c at = me.seated.posed.unlatched (λ none. (let wrong : None ≡ Some c = sym none ∙ at in cc)) d.free
+  none_copied c at = (let old = me.seated.posed.unlatched (λ none. (let wrong : None ≡ Some c = sym none ∙ at in cc)) in let wrong = sym (ap latch_at d.free) ∙ old.1 in cc)
+
+  nothing_copied : (seat e k).copied ≡ None
+  nothing_copied = by (seat e k).copied refl
+    where
+      by : (o : Option ℕ) → (seat e k).copied ≡ o → (seat e k).copied ≡ None
+      by None at = at
+      by (Some c) at = absurd (none_copied c at)
 
   step : (P : Point → Point → Type 0) → P (Latching d.page false) (Fetch d.page) → P (Latching d.page false) (Look d.page) → P (Latching d.page true) (Fetch d.page) → ((owner : ℕ) → P (Claim owner) (Claim owner)) → ((all : Bool) → P (Undo all) (Undo all)) → P Heal Heal → P (seat e k).sitting.point d.next
   step P = by_needs P e.pages (seat e k) d.page d.mode d.next d.needs
@@ -124,7 +131,7 @@ module _ (e s : State) (k : ℕ) (safe : Safe e) (d : DoesLatch e s k) where
     undoes = λ all at. let old = me.seated.posed.undoes all (step (λ old new. new ≡ Undo all → old ≡ Undo all) (λ q. cc) (λ q. cc) (λ q. cc) (λ o q. cc) (λ a q. q) (λ q. cc) at) in record { some = old.some; whole = old.whole; ends = old.ends };
     says = λ at. absurd (step (λ old new. new ≡ Say → ⊥) (λ q. cc) (λ q. cc) (λ q. cc) (λ o q. cc) (λ a q. cc) (λ q. cc) at);
     makes = λ f. me.seated.posed.makes (step (λ old new. is_making new ≡ false → is_making old ≡ false) (λ q. refl) (λ q. refl) (λ q. refl) (λ o q. refl) (λ a q. refl) (λ q. q) f);
-    unlatched = λ some at. (let free : Latched d.page d.mode ≡ Free = at in cc);
+    unlatched = λ some. absurd (some nothing_copied);
   }
 
   seated_now : IsSeated files_e y (latch_of s.latches (sess k)) (lock_at e k)

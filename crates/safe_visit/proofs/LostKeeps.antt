@@ -1,9 +1,10 @@
 -- A snapshot's copy that can't be read: it turns suspect, and leaves to others what it owes them.
-use Rattle.std.proofs.Common.{◌≡◌, ℕ, Bool, true, false, List, refl, ap, sym, subst, ◌∙◌, inl, inr, arith, map, ◌≢◌}
+use Rattle.std.proofs.Common.{◌≡◌, ℕ, Bool, true, false, List, refl, ap, sym, subst, ◌∙◌, inl, inr, arith, map, ◌≢◌, ◌+◌}
 use Rattle.std.specs.Prelude.{Option, Some, None, ◌⊎◌}
 use Rattle.snap_cat.specs.Catalog.{Catalog, snap_at}
 use Rattle.page_base.specs.declared.numbers.PageId.{PageId}
 use Rattle.latch_book.specs.declared.latch.LatchMode.TheVariants.{Sh, Ex}
+use Rattle.latch_book.specs.Latches as latch
 use Rattle.latch_book.specs.Latches.{Latches, latch_of, IsLatchBook}
 use Rattle.plain_model.specs.State.{session, see}
 use Rattle.sparse_set.specs.Sparse.{Sparse, is_copied, sparse_page}
@@ -13,7 +14,7 @@ use Rattle.buf_pool.specs.Pool.{Pooled, pins as pool_pins}
 use Rattle.snap_pages.specs.Shown.{counts, pins, set_of, state_of}
 use Rattle.sys_cat.specs.declared.desc.TableDesc.{TableDesc}
 use Rattle.step_state.proofs.TurnLemmas.{stays_turned, moves_turned, turned_file, in_step_later}
-use Rattle.latch_book.proofs.LatchLemmas.{some_latch}
+use Rattle.latch_book.proofs.LatchLemmas.{some_latch, latch_of-without_latch, latch_of-without_latch_same, IsLatchBook-without_latch}
 use Rattle.latch_book.specs.declared.latch.Latch.{Latch}
 use Rattle.latch_book.specs.declared.latch.LatchMode.{LatchMode}
 use Rattle.step_state.specs.Going.{page_visited}
@@ -22,17 +23,19 @@ use Rattle.plain_model.specs.declared.reply.Reply.{Reply}
 use Rattle.plain_model.specs.declared.reply.Reply.TheVariants.{Ok, Count, Rows, Msg}
 use Rattle.plain_model.specs.declared.reply.TheConstants.Message.{SUSPECT, NO_ROOM, LOG_FAILED}
 use Rattle.plain_model.specs.Messages.{plain}
+use Rattle.page_base.specs.declared.numbers.SessNo.{SessNo}
+use Rattle.snap_pages.specs.Owed.{count_on}
 use Rattle.step_words.specs.Courses.{is_planned}
 use Rattle.step_words.specs.declared.stage.Stage.TheVariants.{AskAll, ScanZero, AskTable, Scan, Plan, Claim as Claiming, Edit as Editing, End}
 use Rattle.step_words.specs.declared.stage.Stage.{Stage}
 use Rattle.step_words.specs.Sittings.{stmt_at, undoes_all}
-use Rattle.step_words.specs.Seats.{Seated, Free, Latched, latch_at}
+use Rattle.step_words.specs.Seats.{Seated, Free, Latched, latch_at, Grip}
 use Rattle.step_state.specs.State.{State, sess, seat, machine, alone_of, before_of}
 use Rattle.step_state.specs.Holding.{lock_at}
 use Rattle.step_state.specs.Posed.{is_making, IsPosed}
 use Rattle.step_state.specs.Own.{IsSeated, IsInStep, IsSafeSession, is_gone, is_between}
 use Rattle.step_state.specs.Snapshots.{IsBeside, IsKeptBy, HoldsEx}
-use Rattle.step_state.specs.Whole.{snap_told}
+use Rattle.step_state.specs.Whole.{snap_told, grip_pin, gathered_on, seat_pins}
 use Rattle.step_state.specs.Told.{IsToldSource, IsToldReading}
 use Rattle.step_state.specs.Safe.{Safe, IsContent}
 use Rattle.step_state.specs.Steps.{Steps}
@@ -113,9 +116,17 @@ module _ (e s : State) (k : ℕ) (safe : Safe e) (d : DoesLoseRead e s k) where
   none_made : (seat e k).making ≡ None
   none_made = me.seated.posed.makes (ap is_making d.at)
 
+  -- who reads copies nothing
+  unmarked : (seat e k).copied ≡ None
+  unmarked = by (seat e k).copied refl
+    where
+      by : (o : Option ℕ) → (seat e k).copied ≡ o → (seat e k).copied ≡ None
+      by None at = at
+      by (Some c) at = absurd (let old = me.seated.posed.unlatched (λ none. (let wrong : None ≡ Some c = sym none ∙ at in cc)) in not_both d.page old.0 (sym (ap latch_at d.hold) ∙ old.1))
+
   posed_now : IsPosed files_e y
   posed_now = record {
-    grip = inr (d.found, (d.page, d.hold));
+    grip = refl;
     course = λ c at. cc;
     changes = λ p at. cc;
     commits = λ at. cc;
@@ -129,12 +140,18 @@ module _ (e s : State) (k : ℕ) (safe : Safe e) (d : DoesLoseRead e s k) where
     undoes = λ all at. cc;
     says = λ at none. ((me.seated.posed.course d.course d.has).fresh (unplanned d.course.stage d.visits)).3;
     makes = λ f. none_made;
-    unlatched = me.seated.posed.unlatched;
+    unlatched = λ some. absurd (some unmarked);
   }
 
-  seated_now : IsSeated files_e y (latch_of e.latches (sess k)) (lock_at e k)
+  is_latcher : latch.IsSession (sess k)
+  is_latcher = record { first = d.is.first; last = omega (arith, d.is.last, safe.whole.few) }
+
+  latch_gone : latch_of s.latches (sess k) ≡ None
+  latch_gone = ap (λ ls. latch_of ls (sess k)) d.latches ∙ latch_of-without_latch_same e.latches (sess k) safe.whole.latches is_latcher
+
+  seated_now : IsSeated files_e y None (lock_at e k)
   seated_now = record {
-    latched = me.seated.latched;
+    latched = refl;
     posed = posed_now;
     there = λ p at. cc;
     rooted = me.seated.rooted;
@@ -150,8 +167,8 @@ module _ (e s : State) (k : ℕ) (safe : Safe e) (d : DoesLoseRead e s k) where
   beside_before : IsBeside e.pages y
   beside_before = record {
     reads = λ c p within at. cc;
-    marks = λ c p copied ex sound. absurd (no_ex c p ex);
-    copies = λ c p copied ex kept. absurd (no_ex c p ex);
+    marks = λ c p copied ex sound. cc;
+    copies = λ c p copied ex kept. cc;
     paid = λ c making at none sound. cc;
     copied = me.beside.copied;
     made = me.beside.made;
@@ -213,12 +230,12 @@ module _ (e s : State) (k : ℕ) (safe : Safe e) (d : DoesLoseRead e s k) where
   pub lost_read_keeps : Steps e s k
   lost_read_keeps = moves_on e s k y (lock_at e k) (session (machine e) k) safe lost.moves lost.stays (λ c in_it. in_it) refl refl refl
       (record { reads = λ j c p is ne within at. lost.maps c p; marks = λ j c p is ne copied hold. lost.maps c p; sparse = λ j c p is ne copied hold kept. lost.files c p kept })
-      (λ j ne. ap (λ ls. latch_of ls (sess j)) d.latches)
-      (subst IsLatchBook (sym d.latches) safe.whole.latches)
-      (λ p. (let same = lost.pinned p in omega (arith, same)))
+      (λ j ne. ap (λ ls. latch_of ls (sess j)) d.latches ∙ latch_of-without_latch e.latches (sess k) (sess j) (λ same. ne (ap (λ (w : SessNo). w.0) same)))
+      (subst IsLatchBook (sym d.latches) (IsLatchBook-without_latch e.latches (sess k) safe.whole.latches is_latcher))
+      (λ p. (let same = lost.pinned p in let its : seat_pins (seat e k) p ≡ seat_pins y p = ap (λ (h : Grip). grip_pin h p + (gathered_on (seat e k).gathered p + count_on (seat e k).work.recs p)) d.hold in omega (arith, same, its)))
       (record {
-        seated = subst (λ (ls : Latches). IsSeated files_e y (latch_of ls (sess k)) (lock_at e k)) (sym d.latches) seated_now;
-        beside = beside_stays e.pages s.pages lost.stays y (λ c p within at. cc) (λ c p copied hold. absurd (no_ex c p hold)) (λ c p copied hold kept. absurd (no_ex c p hold)) beside_before;
+        seated = subst (λ l. IsSeated files_e y l (lock_at e k)) (sym latch_gone) seated_now;
+        beside = beside_stays e.pages s.pages lost.stays y (λ c p within at. cc) (λ c p copied hold. cc) (λ c p copied hold kept. cc) beside_before;
         placed = me.placed;
         script = refl;
         in_step = in_step_later e.pages y (session (machine e) k) (machine e).moment (machine s).moment lost.moves.machine.later in_step_before;

@@ -4,6 +4,7 @@ use Rattle.page_base.specs.declared.numbers.PageId.{PageId}
 use Rattle.page_base.specs.declared.numbers.SnapNo.{SnapNo}
 use Rattle.latch_book.specs.declared.latch.LatchMode.{LatchMode}
 use Rattle.latch_book.specs.declared.latch.LatchMode.TheVariants.{Sh, Ex}
+use Rattle.latch_book.specs.Latches.{without_latch}
 use Rattle.buf_pool.specs.Steps.{PinsOnce}
 use Rattle.snap_pages.specs.Cuts.{place_of}
 use Rattle.plain_model.specs.declared.reply.Reply.TheVariants.{Msg}
@@ -19,8 +20,8 @@ use Rattle.step_words.specs.declared.stage.DbKind.TheVariants.{Source, Snap}
 use Rattle.step_words.specs.declared.stage.Stage.{Stage}
 use Rattle.step_words.specs.declared.stage.Stage.TheVariants.{Scan}
 use Rattle.step_words.specs.Courses.{Course}
-use Rattle.step_words.specs.Seats.{Seated, Latched, Fetched, with_seat}
-use Rattle.step_state.specs.State.{State, IsSession, seat}
+use Rattle.step_words.specs.Seats.{Seated, Free, Latched, Fetched, with_seat}
+use Rattle.step_state.specs.State.{State, IsSession, sess, seat}
 use Rattle.step_state.specs.Posed.{IsNextEdit}
 use Rattle.step_state.specs.Moving.{MovesSeat, TurnsSuspect, SaysTurned}
 use Rattle.safe_visit.specs.Latching.{page_visited}
@@ -83,11 +84,11 @@ pub record DoesReadCopy (e s : State) (k : ℕ) : Type 0 where
   pub moves : MovesSeat e s k (seat_read (seat e k) page (wants_rows course.stage) image)
   pub latches : s.latches ≡ e.latches
 
--- what is left of a course in a snapshot that can't be read: the answer that it is suspect
+-- what is left of a course in a snapshot that can't be read: the answer that it is suspect; the latch is given back
 abbrev pub seat_lost : Seated → Seated
-seat_lost x = record x { sitting = record x.sitting { point = Say; course = None; waiting = Some (Msg (plain SUSPECT)) } }
+seat_lost x = record x { sitting = record x.sitting { point = Say; course = None; waiting = Some (Msg (plain SUSPECT)) }; hold = Free }
 
--- the snapshot's file fails: it turns suspect, unless it is so already; the latch is given back with the answer
+-- the snapshot's file fails: it turns suspect, unless it is so already
 pub data Loses (e s : State) (n : SnapNo) : Type 0 where
   Turns : state_of e.pages n ≢ Suspect → TurnsSuspect e.pages s.pages n → SaysTurned e s n → Loses e s n
   Is : state_of e.pages n ≡ Suspect → ChangesSet n e.pages s.pages → (set_of s.pages n).map ≡ (set_of e.pages n).map → (set_of s.pages n).files.counts ≡ (set_of e.pages n).files.counts → SamePlaces e.pages s.pages → KeepsViews e.pages s.pages
@@ -109,4 +110,4 @@ pub record DoesLoseRead (e s : State) (k : ℕ) : Type 0 where
   pub its : place_of e.pages cut ≡ Some place
   pub loses : Loses e s place
   pub seats : s.seats ≡ with_seat e.seats k (seat_lost (seat e k))
-  pub latches : s.latches ≡ e.latches
+  pub latches : s.latches ≡ without_latch e.latches (sess k)

@@ -49,7 +49,7 @@ module _ (files : List ℕ) (x : Seated) (latch : Option Latch) (held : ℕ → 
 
   posed_back : IsPosed files (seat_back all x records)
   posed_back = record {
-    grip = by_back (λ t. FitsGrip t x.sitting.found Free) (λ ne. tt) (λ same none. refl) (λ stmt same is. inl refl);
+    grip = by_back (λ t. FitsGrip t x.sitting.found Free) (λ ne. tt) (λ same none. refl) (λ stmt same is. refl);
     course = λ c is. absurd (no_course c is);
     changes = λ p e. absurd (by_back (λ t. t ≡ Change p → ⊥) (λ ne q. cc) (λ same none q. cc) (λ stmt same is q. cc) e);
     commits = λ e. absurd (by_back (λ t. t ≡ Commit → ⊥) (λ ne q. cc) (λ same none q. cc) (λ stmt same is q. cc) e);

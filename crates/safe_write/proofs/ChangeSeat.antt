@@ -146,7 +146,7 @@ module _ (files : List ℕ) (x : Seated) (latch : Option Latch) (held : ℕ → 
 
   posed_after : IsPosed files (seat_after x c drafts r)
   posed_after = record {
-    grip = by_point (λ t. FitsGrip t x.sitting.found Free) x.sitting c drafts refl (inl refl) (λ d later is. refl);
+    grip = by_point (λ t. FitsGrip t x.sitting.found Free) x.sitting c drafts refl refl (λ d later is. refl);
     course = on_any;
     changes = λ q e. absurd (no_change q e);
     commits = λ e. inr (course_after c drafts, refl, commits_after drafts e);

@@ -146,7 +146,7 @@ module _ (files : List ℕ) (x : Seated) (latch : Option Latch) (held : ℕ → 
 
   posed_then : IsPosed files (seat_then x c numbers p r)
   posed_then = record {
-    grip = at_then (λ t. FitsGrip t x.sitting.found Free) refl (inl refl) (λ d later none is. refl) (λ n ns is. tt);
+    grip = at_then (λ t. FitsGrip t x.sitting.found Free) refl refl (λ d later none is. refl) (λ n ns is. tt);
     course = on_any;
     changes = λ q e. absurd (no_change q e);
     commits = λ e. inr (course_then c numbers p, refl, commits_then numbers c.edits e);

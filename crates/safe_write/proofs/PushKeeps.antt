@@ -70,7 +70,7 @@ pushes_held x p (ToHeal at hold) free = (let wrong : Latched p Ex ≡ Free = sym
 
 -- WHAT BOTH HAVE IN COMMON: THE SEAT
 
-module _ (files : List ℕ) (x : Seated) (latch : Option Latch) (held : ℕ → Option Mode) (copied : Option ℕ) (holds : x.hold ≢ Free) (a : IsSeated files x latch held) where
+module _ (files : List ℕ) (x : Seated) (latch : Option Latch) (held : ℕ → Option Mode) (copied : Option ℕ) (holds : (p : PageId) × HoldsEx x p) (a : IsSeated files x latch held) where
   posed_copied : IsPosed files (seat_copied x copied)
   posed_copied = record {
     grip = a.posed.grip;
@@ -200,7 +200,7 @@ module _ (e s : State) (k : ℕ) (safe : Safe e) (d : DoesCopy e s k) where
       (λ p. (let same : pins s.pages p ≡ pins e.pages p = ap (λ (x : Pooled). pool_pins x p) d.only.pool in omega (arith, same)))
       (record {
         seated = subst (λ (ls : Latches). IsSeated (counts e.pages) y (latch_of ls (sess k)) (lock_at e k)) (sym d.latches)
-            (seated_copied (counts e.pages) (seat e k) (latch_of e.latches (sess k)) (lock_at e k) (Some (cut_of e.pages d.place)) (pushes_held (seat e k) d.page d.pushes) me.seated);
+            (seated_copied (counts e.pages) (seat e k) (latch_of e.latches (sess k)) (lock_at e k) (Some (cut_of e.pages d.place)) (d.page, pushes_ex (seat e k) d.page d.pushes) me.seated);
         beside = beside_now;
         placed = me.placed;
         script = refl;
@@ -281,7 +281,7 @@ module _ (e s : State) (k : ℕ) (safe : Safe e) (d : DoesMark e s k) where
       (λ p. (let same = pool_marked e.pages s.pages d.cut d.page d.there d.marks p in omega (arith, same)))
       (record {
         seated = subst (λ (ls : Latches). IsSeated (counts e.pages) w (latch_of ls (sess k)) (lock_at e k)) (sym d.latches)
-            (seated_copied (counts e.pages) (seat e k) (latch_of e.latches (sess k)) (lock_at e k) None (pushes_held (seat e k) d.page d.pushes) us.seated);
+            (seated_copied (counts e.pages) (seat e k) (latch_of e.latches (sess k)) (lock_at e k) None (d.page, pushes_ex (seat e k) d.page d.pushes) us.seated);
         beside = beside_stays e.pages s.pages shown_stays w (λ c p within at. absurd (pushes_reads (seat e k) d.page p d.pushes at)) (λ c p copied hold. cc) (λ c p copied hold kept. cc) beside_before;
         placed = us.placed;
         script = refl;

@@ -19,7 +19,7 @@ use Rattle.step_words.specs.declared.stage.Stage.TheVariants.{Claim as Claiming,
 use Rattle.step_words.specs.Courses.{Course, Draft, Plain, Root, is_planned, is_past_all, is_past_table}
 use Rattle.step_words.specs.Coming.{draft_write, taken_at}
 use Rattle.step_words.specs.Sittings.{stmt_at, ends_work}
-use Rattle.step_words.specs.Seats.{Seated, Grip, Free, Latched, Fetched}
+use Rattle.step_words.specs.Seats.{Seated, Grip, Free, Latched, Fetched, latch_at}
 
 -- what a session may hold at a point: one latch at most, that of the page which the point names
 abbrev pub FitsGrip : Point → Bool → Grip → Type 0
@@ -31,8 +31,6 @@ FitsGrip (Change p) found hold = hold ≡ Fetched p Ex
 FitsGrip (Claim owner) found hold = Unit {0}
 FitsGrip (Undo all) found hold = Unit {0}
 FitsGrip Heal found hold = Unit {0}
--- a page of a snapshot that couldn't be read is let go with the answer
-FitsGrip Say found hold = (hold ≡ Free) ⊎ ((found ≡ true) × ((p : PageId) × (hold ≡ Latched p Sh)))
 FitsGrip point found hold = hold ≡ Free
 
 -- at these points no statement on tables is under way, and at some no transaction is either
@@ -145,4 +143,5 @@ pub record IsPosed (files : List ℕ) (x : Seated) : Type 0 where
   -- a refusal is said once the statement's records are taken back
   pub says : x.sitting.point ≡ Say → x.sitting.course ≡ None → length x.work.recs ≡ x.base
   pub makes : is_making x.sitting.point ≡ false → x.making ≡ None
-  pub unlatched : x.copied ≢ None → x.hold ≢ Free
+  -- between copy and mark it holds the page's latch in EX
+  pub unlatched : x.copied ≢ None → (p : PageId) × (latch_at x.hold ≡ Some (record { page = p; mode = Ex }))
