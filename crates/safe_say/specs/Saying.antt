@@ -1,5 +1,5 @@
 -- The steps that answer: at once, by what a course has found, or once records were taken back.
-use Rattle.std.specs.Prelude.{ℕ, ◌≡◌, ◌⊎◌, Option, Some, None, remove, true, false}
+use Rattle.std.specs.Prelude.{ℕ, ◌≡◌, ◌⊎◌, Some, None, remove, true, false}
 use Rattle.page_base.specs.declared.numbers.SnapNo.{SnapNo}
 use Rattle.latch_book.specs.Latches.{without_latch}
 use Rattle.buf_pool.specs.Steps.{SameShown}
@@ -15,7 +15,7 @@ use Rattle.snap_pages.specs.Shown.{Shown, catalog, pins, state_of, owes_of, with
 use Rattle.snap_pages.specs.Views.{ClosesUp}
 use Rattle.step_words.specs.declared.point.Point.TheVariants.{Start, Say, Heal}
 use Rattle.step_words.specs.Courses.{Course}
-use Rattle.step_words.specs.Sittings.{Sitting, stmt_at}
+use Rattle.step_words.specs.Sittings.{stmt_at}
 use Rattle.step_words.specs.Seats.{Seated, Free}
 use Rattle.step_state.specs.State.{State, sess, seat}
 use Rattle.safe_say.specs.Answering.{Answers}

@@ -57,7 +57,8 @@ pub record DoesRestore (e s : State) (k : ℕ) : Type 0 where
   pub locks : s.locks ≡ e.locks
   pub fixed : s.fixed ≡ e.fixed
 
--- a session that has no statement left takes back what its transaction has written, and ends
+-- A session that has no statement left takes back what its transaction has written, and ends. That is the beginning of the
+-- latch or the leaving that follows, and no step of its own.
 pub record DoesEnd (e s : State) (k : ℕ) : Type 0 where
   pub at : (seat e k).sitting.point ≡ Start
   pub none : stmt_at (seat e k).sitting ≡ None

@@ -48,7 +48,7 @@ pub record DoesGather (e s : State) (k : ℕ) : Type 0 where
   pub moves : MovesSeat e s k (seat_gathered (seat e k) page image)
   pub latches : s.latches ≡ e.latches
 
--- once all are gathered the session swaps
+-- Once all are gathered the session swaps. That is the beginning of the swap, and no step of its own.
 pub record DoesTurnToSwap (e s : State) (k : ℕ) : Type 0 where
   pub at : (seat e k).sitting.point ≡ Gather
   pub all : HasAll e.pages (seat e k)

@@ -22,7 +22,7 @@ use Rattle.step_words.specs.declared.stage.Stage.{Stage}
 use Rattle.step_words.specs.declared.stage.Stage.TheVariants.{AskAll, ScanZero, AskTable, Scan, Plan, Claim as Claiming, Edit as Editing, End}
 use Rattle.step_words.specs.Courses.{Course, is_past_all}
 use Rattle.step_words.specs.Sittings.{stmt_at, undoes_all}
-use Rattle.step_words.specs.Seats.{latch_at, Seated, Grip, Free, Latched}
+use Rattle.step_words.specs.Seats.{latch_at, Seated, Grip, Latched}
 use Rattle.step_state.specs.State.{State, sess, seat, machine, alone_of, before_of}
 use Rattle.step_state.specs.Holding.{lock_at}
 use Rattle.step_state.specs.Posed.{FitsGrip, lacks_course, lacks_work, is_making, IsIn, IsOnCourse, IsPosed}
