@@ -3,7 +3,7 @@ use Rattle.std.specs.Prelude.{◌≡◌, ◌==◌, ◌⊎◌, if◌then◌else�
 use Rattle.page_base.specs.declared.numbers.PageId.{PageId}
 use Rattle.page_dev.specs.Files.{called}
 use Rattle.buf_pool.specs.Pool.{Pooled, is_dirty}
-use Rattle.buf_pool.specs.Order.{victim}
+use Rattle.buf_pool.specs.Order.{order, victim, room_made}
 use Rattle.buf_pool.specs.declared.refusal.FetchRefusal.{FetchRefusal}
 use Rattle.buf_pool.specs.declared.refusal.FetchRefusal.TheVariants.{AllPinned, DataFault, Damaged, Memory}
 
@@ -24,16 +24,27 @@ room_calls v = if length v.entries == v.frames then saving_calls v (victim v) el
 abbrev pub read_calls : Pooled → PageId → List ℕ
 read_calls v p = called (room_calls v) p.file
 
--- a refusal came before the read or behind it
-abbrev pub EndsCalls : Pooled → Pooled → PageId → Type 0
-EndsCalls old new p = (new.files.calls ≡ room_calls old) ⊎ (new.files.calls ≡ read_calls old p)
+-- no call was made but the write of the page that was to give way, where it is dirty, and no page is out
+pub record EndsWriting (old new : Pooled) : Type 0 where
+  pub calls : new.files.calls ≡ room_calls old
+  pub kept : order new ≡ order old
 
--- which calls were made where a page wasn't brought in
+-- a frame was free or made so, and the page wasn't read
+pub record EndsUnread (old new : Pooled) : Type 0 where
+  pub calls : new.files.calls ≡ room_calls old
+  pub out : order new ≡ room_made old
+
+-- it was read
+pub record EndsRead (old new : Pooled) (p : PageId) : Type 0 where
+  pub calls : new.files.calls ≡ read_calls old p
+  pub out : order new ≡ room_made old
+
+-- which calls were made where a page wasn't brought in, and which page is out
 abbrev pub RefusedCalls : Pooled → Pooled → PageId → FetchRefusal → Type 0
-RefusedCalls old new p (AllPinned pins) = new.files.calls ≡ old.files.calls
-RefusedCalls old new p (DataFault count) = EndsCalls old new p
-RefusedCalls old new p (Damaged at) = new.files.calls ≡ read_calls old p
-RefusedCalls old new p Memory = EndsCalls old new p
+RefusedCalls old new p (AllPinned pins) = (new.files.calls ≡ old.files.calls) × (order new ≡ order old)
+RefusedCalls old new p (DataFault count) = EndsWriting old new ⊎ EndsRead old new p
+RefusedCalls old new p (Damaged at) = EndsRead old new p
+RefusedCalls old new p Memory = EndsUnread old new ⊎ EndsRead old new p
 
 -- those of a read
 abbrev pub ReadingCalls : Pooled → Pooled → PageId → FetchRefusal → Type 0

@@ -1,6 +1,6 @@
 //! Where no frame is free, the least recently used page that isn't pinned gives its own, once its file has it.
 
-ghost use Rattle.std.specs.Prelude.{◌≡◌, ◌<◌, ◌+◌, true, false, IsTrue, IfSome, IfOk, IfErr, OnOk, length};
+ghost use Rattle.std.specs.Prelude.{◌≡◌, ◌<◌, ◌+◌, true, false, IsTrue, IfSome, IfOk, IfErr, OnOk, OnErr, length};
 ghost use Rattle.page_base.specs.Pages.{image_at, is_page};
 ghost use Rattle.page_base.specs.declared.numbers.PageId.{PageId};
 ghost use Rattle.page_dev.specs.Faults.{HasCause, total};
@@ -123,6 +123,7 @@ impl<P: PageFile> Pool<P> {
         requires { IsUnpinned self.old p }
         ensures stays { Stays self.old self.new }
         ensures order { OnOk result (order self.new ≡ without p (order self.old)) }
+        ensures kept { OnErr result (order self.new ≡ order self.old) }
         ensures fewer { OnOk result (length self.new.entries + 1 ≡ length self.old.entries) }
         ensures calls { self.new.files.calls ≡ save_calls self.old p }
         ensures faulty { IfErr result (IsFault self.old self.new) }
@@ -137,6 +138,7 @@ impl<P: PageFile> Pool<P> {
     pub(crate) fn make_room(&mut self) -> Result<(), FetchRefusal>
         ensures stays { Stays self.old self.new }
         ensures order { OnOk result (order self.new ≡ room_made self.old) }
+        ensures kept { OnErr result (order self.new ≡ order self.old) }
         ensures room { OnOk result (length self.new.entries < self.new.frames) }
         ensures free { OnOk result (¬ IsBlocked self.old) }
         ensures calls { self.new.files.calls ≡ room_calls self.old }

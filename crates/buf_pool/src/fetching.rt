@@ -112,7 +112,8 @@ impl<P: PageFile> Pool<P> {
 
     /// Brings in a page, pins it once and makes it the most recently used. What every page shows is as before, and so
     /// are all pins after a refusal, which comes exactly by its cause. A page in memory needs no call on a file; another
-    /// one is read once, and the page that gives way to it is written once where it is dirty. No call is tried again.
+    /// one is read once, and the page that gives way to it is written once where it is dirty. No call is tried again, and
+    /// no other page gives way, refused or not.
     pub fn fetch(&mut self, alloc: Global, p: PageId) -> Result<(), FetchRefusal>
         requires there { p.page < slice_index self.old.files.counts p.file }
         requires few { pins self.old p < 2 ^ 100 }

@@ -2,3 +2,4 @@ mod GotLemmas
 mod SwapLemmas
 mod ShowLemmas
 mod HeldLemmas
+mod RefusedLemmas

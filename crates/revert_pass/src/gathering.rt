@@ -5,8 +5,9 @@ ghost use Rattle.page_fmt.specs.Content.{IsPage};
 ghost use Rattle.buf_pool.specs.Pool.{with_pin};
 ghost use Rattle.sparse_set.specs.Sparse.{is_copied, sparse_page};
 ghost use Rattle.snap_pages.specs.Shown.{pins, IsOpen, IsThere, set_of};
+ghost use Rattle.snap_pages.specs.Steps.{SamePool};
 ghost use Rattle.revert_pass.specs.Got.{has};
-ghost use Rattle.revert_pass.specs.Gathers.{Adds, CopyRefused, GatherRefused, IsOneCall, ShowsSame};
+ghost use Rattle.revert_pass.specs.Gathers.{Adds, CopyRefused, GatherRefused, IsOneCall, IsOneFetch, ShowsSame};
 
 use crate::{Gathered, RevertRefusal};
 use buf_pool::FetchRefusal;
@@ -27,6 +28,7 @@ fn read_copy<P: PageFile>(
     requires there { IsThere pages.old p }
     requires copied { is_copied (set_of pages.old s) p ≡ true }
     ensures same { ShowsSame s pages.old pages.new }
+    ensures pool { SamePool pages.old pages.new }
     ensures pins { pins pages.new ≡ pins pages.old }
     ensures called { OnOk result (IsOneCall s p pages.old pages.new) }
     ensures page { OnOk result (IsPage into.new) }
@@ -57,6 +59,7 @@ fn pin_and_read<P: PageFile>(
     ensures same { ShowsSame s pages.old pages.new }
     ensures once { OnOk result (pins pages.new ≡ with_pin (pins pages.old) p) }
     ensures pins { OnErr result (pins pages.new ≡ pins pages.old) }
+    ensures fetched { OnOk result (IsOneFetch p pages.old pages.new) }
     ensures called { OnOk result (IsOneCall s p pages.old pages.new) }
     ensures page { OnOk result (IsPage into.new) }
     ensures bytes { OnOk result (IsTrue (set_of pages.old s).files.tells → into.new ≡ sparse_page (set_of pages.old s) p) }
@@ -73,7 +76,7 @@ fn pin_and_read<P: PageFile>(
 /// Pins a source page once more and keeps the snapshot's copy of it. The snapshot's map has the page, and `got` lacks
 /// it. After a refusal all pins and `got` are as before. `Fetch` has the pool's refusal by its cause, or `Damaged` where
 /// the bytes that were read of the copy are no page; `Sparse` comes only where the sparse file's count of faults rose.
-/// The copy is read by one call, which isn't tried again.
+/// The page is fetched once, and the copy is read by one call: neither is tried again.
 pub fn gather<P: PageFile>(
     alloc: Global,
     pages: &mut SnapPages<P>,
@@ -88,6 +91,7 @@ pub fn gather<P: PageFile>(
     requires few { pins pages.old p < 2 ^ 100 }
     ensures adds { OnOk result (Adds s p pages.old got.old got.new) }
     ensures once { OnOk result (pins pages.new ≡ with_pin (pins pages.old) p) }
+    ensures fetched { OnOk result (IsOneFetch p pages.old pages.new) }
     ensures called { OnOk result (IsOneCall s p pages.old pages.new) }
     ensures got { OnErr result (got.new ≡ got.old) }
     ensures pins { OnErr result (pins pages.new ≡ pins pages.old) }

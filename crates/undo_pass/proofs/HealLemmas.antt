@@ -18,8 +18,8 @@ use Rattle.snap_pages.specs.Slots.{slots_of}
 use Rattle.snap_pages.specs.Views.{view, IsKept, KeepsViews}
 use Rattle.snap_pages.specs.Owed.{AreOwed, DropsOwed}
 use Rattle.snap_pages.proofs.SourceLemmas.{slots_edited}
-use Rattle.undo_pass.specs.Heals.{OthersStay, IsHealed, IsUnhealed}
-use Rattle.undo_pass.specs.Mending.{ReadsOnce, Mends}
+use Rattle.undo_pass.specs.Heals.{OthersStay, IsHealed, IsUnhealed, Mends}
+use Rattle.undo_pass.specs.Mending.{ReadsOnce}
 use Rattle.undo_pass.proofs.StayLemmas.{stay_on}
 
 -- the record was dropped from what was there before, which has the same catalog and pool

@@ -54,10 +54,29 @@ pub record IsUnhealed (s : SnapNo) (old new : Shown) : Type 0 where
   pub cat : new.cat ≡ old.cat
   pub stay : OthersStay s old new
 
+-- the image has what stood in the record's slot, which had room for it
+pub record Mends (r : Record) (old new : List ℕ) : Type 0 where
+  pub mended : content new ≡ edited (content old) r.slot r.before
+  pub room : used (edited (content old) r.slot r.before) ≤ 8192
+
+-- the read failed: it was the only call, and no view changed
+pub record IsUnread (s : SnapNo) (p : PageId) (old new : Shown) : Type 0 where
+  pub once : IsOneCall s p old new
+  pub views : KeepsViews old new
+
+-- the write behind it failed: there were two calls, and the image is the page that was read with the record taken back;
+-- that page is the sparse page where its file tells
+pub record IsUnwritten (s : SnapNo) (r : Record) (image : List ℕ) (old new : Shown) : Type 0 where
+  pub twice : IsTwoCalls s r.page old new
+  pub bytes : List ℕ
+  pub are : IsTrue (set_of old s).files.tells → bytes ≡ sparse_page (set_of old s) r.page
+  pub page : IsPage bytes
+  pub mends : Mends r bytes image
+
 -- a call failed, the read or the write behind it: the count of faults rose
-pub record IsLost (s : SnapNo) (p : PageId) (old new : Shown) : Type 0 where
+pub record IsLost (s : SnapNo) (r : Record) (image : List ℕ) (old new : Shown) : Type 0 where
   pub rose : Rose (faults (set_of old s)) (faults (set_of new s))
-  pub calls : IsOneCall s p old new ⊎ IsTwoCalls s p old new
+  pub failed : IsUnread s r.page old new ⊎ IsUnwritten s r image old new
 
 -- the page was read once, and no view changed; the bytes that were read are the sparse page's where its file tells, and
 -- they are no page, or the record's slot has no room on them for what stood there; this is the place
@@ -68,11 +87,11 @@ pub record IsDamage (s : SnapNo) (r : Record) (old new : Shown) (at : ℕ) : Typ
   pub are : IsTrue (set_of old s).files.tells → bytes ≡ sparse_page (set_of old s) r.page
   pub fault : (fault_of bytes ≡ Some at) ⊎ (IsPage bytes × (8192 < used (edited (content bytes) r.slot r.before)) × (at ≡ 8190 - 2 * r.slot))
 
--- what a refusal tells, of the last record
-abbrev pub HealRefusedOn : SnapNo → Record → Shown → Shown → HealRefusal → Type 0
-HealRefusedOn s r old new Failed = IsLost s r.page old new
-HealRefusedOn s r old new (Damaged at) = IsDamage s r old new at
+-- what a refusal tells, of the last record and the image that is left
+abbrev pub HealRefusedOn : SnapNo → Record → List ℕ → Shown → Shown → HealRefusal → Type 0
+HealRefusedOn s r image old new Failed = IsLost s r image old new
+HealRefusedOn s r image old new (Damaged at) = IsDamage s r old new at
 
 -- which refusal is answered
-abbrev pub HealRefused : SnapNo → Shown → Shown → HealRefusal → Type 0
-HealRefused s old new refusal = (front : List Record) (r : Record) → owes_of old s ≡ front ++ r ∷ [] → HealRefusedOn s r old new refusal
+abbrev pub HealRefused : SnapNo → List ℕ → Shown → Shown → HealRefusal → Type 0
+HealRefused s image old new refusal = (front : List Record) (r : Record) → owes_of old s ≡ front ++ r ∷ [] → HealRefusedOn s r image old new refusal

@@ -36,12 +36,7 @@ abbrev pub ReadRefused : SnapNo → PageId → Shown → Shown → HealRefusal �
 ReadRefused s p old new Failed = Rose (faults (set_of old s)) (faults (set_of new s))
 ReadRefused s p old new (Damaged at) = IsNoPage s p old at
 
--- the image has what stood in the record's slot, which had room for it
-pub record Mends (r : Record) (old new : List ℕ) : Type 0 where
-  pub mended : content new ≡ edited (content old) r.slot r.before
-  pub room : used (edited (content old) r.slot r.before) ≤ 8192
-
--- it had none
+-- the record's slot had no room on the image for what stood there
 abbrev pub MendRefused : Record → List ℕ → HealRefusal → Type 0
 MendRefused r image Failed = ⊥
 MendRefused r image (Damaged at) = (8192 < used (edited (content image) r.slot r.before)) × (at ≡ 8190 - 2 * r.slot)

@@ -8,8 +8,8 @@ ghost use Rattle.snap_cat.specs.declared.snapshot.SnapState.TheVariants.{Suspect
 ghost use Rattle.snap_pages.specs.Shown.{IsOpen, IsThere, state_of, set_of, owes_of};
 ghost use Rattle.snap_pages.specs.Views.{view};
 ghost use Rattle.snap_pages.specs.Owed.{AreOwed};
-ghost use Rattle.undo_pass.specs.Heals.{IsHealed, IsUnhealed, HealRefused};
-ghost use Rattle.undo_pass.specs.Mending.{ReadsOnce, ReadRefused, Mends, MendRefused};
+ghost use Rattle.undo_pass.specs.Heals.{IsHealed, IsUnhealed, HealRefused, Mends};
+ghost use Rattle.undo_pass.specs.Mending.{ReadsOnce, ReadRefused, MendRefused};
 
 use crate::HealRefusal;
 use page_base::{Image, PageId, SnapNo};
@@ -78,9 +78,9 @@ fn mend<P: PageFile>(
 
 /// Takes the last record that the snapshot owes back from its sparse page: the page is read and written once, and then
 /// the record goes with its pin. There is one, the snapshot isn't suspect, and its map has the page. After a refusal the
-/// record stays: `Failed` only where the sparse file's count of faults rose, and then that page may hold anything;
-/// `Damaged` exactly where the bytes that were read are no page, or what stood in the slot has no room there. Takes no
-/// memory.
+/// record stays: `Failed` only where the sparse file's count of faults rose, after one call where the read failed, or
+/// after two where the write did, and then that page may hold anything; `Damaged` exactly where the bytes that were read
+/// are no page, or what stood in the slot has no room there. Takes no memory.
 pub fn heal<P: PageFile>(
     pages: &mut SnapPages<P>,
     s: SnapNo,
@@ -93,7 +93,7 @@ pub fn heal<P: PageFile>(
     requires owed { AreOwed pages.old s }
     ensures ok { OnOk result (IsHealed s pages.old pages.new) }
     ensures err { OnErr result (IsUnhealed s pages.old pages.new) }
-    ensures refused { IfErr result (HealRefused s pages.old pages.new) }
+    ensures refused { IfErr result (HealRefused s scratch.new pages.old pages.new) }
 {
     let page = last_page(pages, s);
     read_page(pages, s, page, scratch)?;
