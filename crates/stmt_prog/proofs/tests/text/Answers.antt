@@ -1,4 +1,4 @@
-use Rattle.std.proofs.Common.{refl, ◌≡◌, ℕ, zero, suc, Bool, true, List, ap, sym, ◌∙◌, ◌&&◌, subst}
+use Rattle.std.proofs.Common.{rules, refl, ◌≡◌, ℕ, zero, suc, Bool, true, List, ap, sym, ◌∙◌, ◌&&◌, subst}
 use Rattle.std.specs.Prelude.{replicate}
 use Rattle.std.specs.List.{list_all}
 use Rattle.plain_model.specs.declared.expr.Expr.TheVariants.{Text}
@@ -14,4 +14,6 @@ entry : (n : ℕ) → is_entry (Text (replicate n 120)) ≡ true
 entry n = ap (λ (b : Bool). b && true) (letters n)
 
 pub returns : goal.returns
-returns c = subst (λ (bytes : List ℕ). is_entry (Text bytes) ≡ true) (sym (c.from.ensures ∙ c.vec.ensures.items)) (entry c.args.size)
+returns c =
+    let is : c.in_ok-vec.field-0.items ≡ replicate c.args.size 120 = search rules in
+    subst (λ (bytes : List ℕ). is_entry (Text bytes) ≡ true) (sym (c.from.ensures ∙ is)) (entry c.args.size)
