@@ -1,32 +1,32 @@
 -- What a course keeps at each stage, by the program's state.
-use Rattle.std.proofs.Common.{refl, ◌≡◌, ◌≢◌, ℕ, zero, suc, ◌<◌, ◌≤◌, ◌^◌, Bool, true, false, cond, List, [], ◌∷◌, length, map, drop, ap, sym, subst, arith, inl, inr}
+use Rattle.std.proofs.Common.{refl, ◌≡◌, ◌≢◌, ℕ, zero, suc, ◌<◌, ◌≤◌, ◌^◌, Bool, true, false, cond, List, [], ◌∷◌, length, drop, ap, sym, subst, arith, inl, inr}
 use Rattle.std.specs.Prelude.{Option, Some, None, nat_lt}
 use Rattle.std.specs.List.{AllByRecursion}
 use Rattle.std.proofs.lemmas.Bool.{ltb-true, ltb-false}
 use Rattle.page_base.specs.declared.numbers.PageId.{PageId}
+use Rattle.page_base.specs.declared.numbers.TableNo.{TableNo}
 use Rattle.page_fmt.specs.Seen.{Looked, Shows}
 use Rattle.plain_model.specs.declared.reply.Reply.{Reply}
 use Rattle.plain_model.specs.Free.{is_of_tables}
 use Rattle.plain_model.specs.Sound.{is_sound}
 use Rattle.sys_cat.specs.declared.desc.TableDesc.{TableDesc}
 use Rattle.sys_cat.specs.Rows.{zero_root}
-use Rattle.table_walk.specs.declared.plan.Edit.{Edit}
 use Rattle.table_walk.specs.declared.visit.Visit.{Visit}
 use Rattle.table_walk.specs.Answers.{IsNext}
-use Rattle.table_walk.specs.Plans.{IsBelow}
 use Rattle.table_walk.specs.Tables.{is_leaf}
 use Rattle.table_walk.specs.Walk.{Lacks, IsDone}
 use Rattle.page_tables.specs.Layout.{shape, first}
 use Rattle.table_scan.specs.Scanned.{Scanned, IsNextOf}
 use Rattle.step_words.specs.declared.stage.Stage.TheVariants as stages
-use Rattle.step_words.specs.Courses.{Course, Draft, Plain}
+use Rattle.step_words.specs.Courses.{Course, Draft}
 use Rattle.stmt_course.specs.Keeping.{IsCourse, IsTableOf, IsDraftBelow}
 use Rattle.stmt_course.specs.Knowing.{Finds, IsFound}
 use Rattle.stmt_course.specs.Planning.{stage_after}
 use Rattle.stmt_prog.specs.Heads.{Headed}
-use Rattle.stmt_prog.specs.States.{begun, course_of, drafts, zero_stage, own_stage, IsState, IsReading, IsFoundIn}
+use Rattle.stmt_prog.specs.Drafts.{all_drafts}
+use Rattle.stmt_prog.specs.States.{begun, course_of, drafts, zero_stage, own_stage, IsState, IsReading, IsFoundIn, IsLackingIn, IsTableIn}
 use Rattle.stmt_prog.specs.declared.state.State.{State}
-use Rattle.stmt_prog.specs.declared.state.State.TheVariants.{AskAll, ScanZero, AskTable, ScanOwn, Planning, Writing}
+use Rattle.stmt_prog.specs.declared.state.State.TheVariants.{AskAll, ScanZero, AskTable, ScanOwn, Planning, Defining, Writing}
 
 no_table : {P : Type 0} (d : TableDesc) → ◌≡◌ {A = Option TableDesc} None (Some d) → P
 no_table d e = absurd (let wrong : ◌≡◌ {A = Option TableDesc} None (Some d) = e in cc)
@@ -55,11 +55,17 @@ finds_in h looked d c f s b e = record {
       subst (λ o. IsFound ds tables c.stmt o) (sym e) (subst (λ x. IsFound ds tables x (Some d)) (sym s) (f.found files at ds tables base (subst (λ (l : List Looked). Shows l at) b shows)));
 }
 
-below_drop : (n k : ℕ) (edits : List Edit) → AllByRecursion (IsBelow n) edits → AllByRecursion (IsDraftBelow n) (drop k (map Plain edits))
-below_drop n zero [] a = tt
-below_drop n zero (e ∷ es) a = (a.0, below_drop n zero es a.1)
+finds_none : (h : Headed) (looked : List Looked) (number : TableNo) (c : Course) → IsLackingIn h.stmt looked number → c.stmt ≡ h.stmt → c.base ≡ looked → c.desc ≡ None → Finds c
+finds_none h looked number c f s b e = record {
+  whole = subst (λ (l : List Looked). IsDone shape.kids l (first zero_root)) (sym b) f.whole;
+  found = λ files at ds tables base shows.
+      subst (λ o. IsFound ds tables c.stmt o) (sym e) (subst (λ x. IsFound ds tables x None) (sym s) (f.found files at ds tables base (subst (λ (l : List Looked). Shows l at) b shows)));
+}
+
+pub below_drop : (n k : ℕ) (ds : List Draft) → AllByRecursion (IsDraftBelow n) ds → AllByRecursion (IsDraftBelow n) (drop k ds)
+below_drop n zero ds a = a
 below_drop n (suc k) [] a = tt
-below_drop n (suc k) (e ∷ es) a = below_drop n k es a.1
+below_drop n (suc k) (d ∷ ds) a = below_drop n k ds a.1
 
 module _ (h : Headed) (tables : is_of_tables h.stmt ≡ true) (sound : is_sound h.stmt ≡ true) where
   asking : IsCourse (begun h)
@@ -96,9 +102,9 @@ module _ (h : Headed) (tables : is_of_tables h.stmt ≡ true) (sound : is_sound 
     replied = λ e. not_true e;
   })
 
-  asking_table : (s : Scanned) (d : TableDesc) → IsFoundIn h.stmt s.seen d → IsCourse (course_of h (AskTable s d))
-  asking_table s d f = record {
-    at = (finds_in h s.seen d (course_of h (AskTable s d)) f refl refl refl, (d, refl));
+  asking_table : (s : Scanned) (d : TableDesc) (own : Scanned) → IsFoundIn h.stmt s.seen d → IsCourse (course_of h (AskTable s d own))
+  asking_table s d own f = record {
+    at = (finds_in h s.seen d (course_of h (AskTable s d own)) f refl refl refl, (d, refl));
     tables = tables;
     sound = sound;
     table = λ e is. subst (IsTableOf h.stmt) (same_table d e is) f.table;
@@ -147,15 +153,36 @@ module _ (h : Headed) (tables : is_of_tables h.stmt ≡ true) (sound : is_sound 
     replied = λ e. not_true e;
   }
 
-  module _ (d : TableDesc) (owners : List ℕ) (taken : List PageId) (reply : Reply) (table : IsTableOf h.stmt d) (few : length taken ≤ length owners) (small : AllByRecursion (λ number. number < 2 ^ 31) owners) where
+  defining : (s : Scanned) (number : TableNo) → IsLackingIn h.stmt s.seen number → IsCourse (course_of h (Defining s number))
+  defining s number l = record {
+    at = (finds_none h s.seen number (course_of h (Defining s number)) l refl refl refl, tt);
+    tables = tables;
+    sound = sound;
+    table = λ e is. no_table e is;
+    emptied = λ e. not_true e;
+    unasked = λ e. not_false e;
+    unread = λ e. not_false e;
+    fresh = λ e. (refl, refl, refl);
+    taken = omega arith;
+    claimed = λ e. refl;
+    below = tt;
+    small = tt;
+    replied = λ e. not_true e;
+  }
+
+  table_in : (o : Option TableDesc) → IsTableIn h o → (e : TableDesc) → o ≡ Some e → IsTableOf h.stmt e
+  table_in None t e is = no_table e is
+  table_in (Some d) t e is = subst (IsTableOf h.stmt) (same_table d e is) t
+
+  module _ (d : Option TableDesc) (owners : List ℕ) (taken : List PageId) (reply : Reply) (table : IsTableIn h d) (few : length taken ≤ length owners) (small : AllByRecursion (λ number. number < 2 ^ 31) owners) where
     abbrev writes : List Draft → Bool → Course
-    writes ds b = record (begun h) { stage = cond b stages.Claim (stage_after ds); desc = Some d; owners = owners; taken = taken; edits = ds; reply = Some reply }
+    writes ds b = record (begun h) { stage = cond b stages.Claim (stage_after ds); desc = d; owners = owners; taken = taken; edits = ds; reply = Some reply }
 
     some_reply : ◌≢◌ {A = Option Reply} (Some reply) None
     some_reply e = absurd (let wrong : ◌≡◌ {A = Option Reply} (Some reply) None = e in cc)
 
-    its_table : (e : TableDesc) → Some d ≡ Some e → IsTableOf h.stmt e
-    its_table e is = subst (IsTableOf h.stmt) (same_table d e is) table
+    its_table : (e : TableDesc) → d ≡ Some e → IsTableOf h.stmt e
+    its_table = table_in d table
 
     writing_by : (ds : List Draft) (b : Bool) → nat_lt (length taken) (length owners) ≡ b → AllByRecursion (IsDraftBelow (length owners)) ds → IsCourse (writes ds b)
     writing_by ds true lt below = record {
@@ -208,9 +235,10 @@ module _ (h : Headed) (tables : is_of_tables h.stmt ≡ true) (sound : is_sound 
     }
 
   pub is_course : (s : State) → IsState h s → IsCourse (course_of h s)
-  is_course AskAll is = asking
+  is_course (AskAll s) is = asking
   is_course (ScanZero s) is = reading_zero s is
-  is_course (AskTable s d) is = asking_table s d is
+  is_course (AskTable s d own) is = asking_table s d own is.0
   is_course (ScanOwn s d own) is = reading_own s d own is.0 is.1
   is_course (Planning s d own) is = planning s d own is
-  is_course (Writing d q reply) is = writing_by d q.owners.items q.taken.items reply is.0 is.1.taken is.1.small (drafts q) (nat_lt (length q.taken.items) (length q.owners.items)) refl (below_drop (length q.owners.items) q.done q.edits.items is.1.below)
+  is_course (Defining s number) is = defining s number is
+  is_course (Writing d q reply) is = writing_by d q.owners.items q.taken.items reply is.0 is.1.taken is.1.small (drafts q) (nat_lt (length q.taken.items) (length q.owners.items)) refl (below_drop (length q.owners.items) q.done (all_drafts q.told q.edits.items) is.1.below)

@@ -1,17 +1,20 @@
 -- What a page that was read makes of a course, over each database that was read so.
-use Rattle.std.proofs.Common.{refl, ◌≡◌, ℕ, true, false, List, [], ap, sym, ◌∙◌, subst}
+use Rattle.std.proofs.Common.{refl, ◌≡◌, ◌<◌, ◌≤◌, ◌^◌, ℕ, true, false, List, [], ap, sym, ◌∙◌, subst}
 use Rattle.std.specs.Prelude.{Option, Some, None, unwrap_or}
 use Rattle.std.specs.Option.{is_some}
 use Rattle.std.specs.FinMap as finite
 use Rattle.std.specs.List.{Any}
 use Rattle.page_base.specs.declared.numbers.PageId.{PageId}
+use Rattle.page_base.specs.declared.numbers.TableNo.{TableNo}
 use Rattle.page_fmt.specs.Seen.{SlotsAt, Looked, Shows}
 use Rattle.plain_model.specs.declared.reply.Message.{Message}
 use Rattle.plain_model.specs.declared.stmt.Stmt.{Stmt}
 use Rattle.plain_model.specs.Meaning.{shape, change_and_reply, table_in}
 use Rattle.plain_model.specs.Statements.{data_over, table_named}
 use Rattle.plain_model.specs.Tables.{Rows, Table, Tables}
+use Rattle.plain_steps.specs.Phases.{second_mode}
 use Rattle.sys_cat.specs.declared.desc.TableDesc.{TableDesc}
+use Rattle.sys_cat.specs.Lists.{has_number}
 use Rattle.sys_cat.specs.Rows.{zero_root, table_0}
 use Rattle.table_walk.specs.declared.refusal.SeenRefusal.{SeenRefusal}
 use Rattle.table_walk.specs.declared.refusal.SeenRefusal.TheVariants as seen
@@ -33,13 +36,13 @@ use Rattle.stmt_course.specs.Knowing.{IsOver, IsFound}
 use Rattle.stmt_eval.specs.declared.effect.Effect.{Effect}
 use Rattle.stmt_eval.specs.Verdicts.{IsEffect}
 use Rattle.stmt_prog.specs.declared.refusal.Refusal.{Refusal}
-use Rattle.stmt_prog.specs.declared.state.State.TheVariants.{ScanZero, AskTable, ScanOwn, Planning}
+use Rattle.stmt_prog.specs.declared.state.State.TheVariants.{ScanZero, ScanOwn, Planning, Defining}
 use Rattle.stmt_prog.specs.Ending.{Ends}
-use Rattle.stmt_prog.specs.Feeding.{table_stage, is_select, read, read_at, OverEach, TakesOn, ReadsZero, FindsTable, ReadsOwn, ComesToPlan, Answers}
-use Rattle.stmt_prog.specs.Heads.{Headed}
+use Rattle.stmt_prog.specs.Feeding.{table_stage, is_select, read, read_at, OverEach, TakesOn, ReadsZero, FindsTable, FindsNone, ReadsOwn, ComesToPlan, Answers}
+use Rattle.stmt_prog.specs.Heads.{Headed, creates}
 use Rattle.stmt_prog.specs.Reading.{OfBases, OfRows}
 use Rattle.stmt_prog.specs.Refusing.{IfSaid, of_seen}
-use Rattle.stmt_prog.specs.States.{begun, course_of, zero_stage, own_stage, IsFoundIn}
+use Rattle.stmt_prog.specs.States.{begun, course_of, zero_stage, own_stage, IsFoundIn, IsLackingIn}
 use Rattle.stmt_prog.proofs.ReadLemmas.{named_some, said_again}
 
 -- all was read where nothing comes next
@@ -61,8 +64,12 @@ module _ (h : Headed) (zero : Scanned) (v : Visit) (is : zero.next ≡ Some v) (
   pub zero_goes_on : (now : Scanned) (w : Visit) → now.next ≡ Some w → now.seen ≡ with_page zero.seen v.page slots → TakesOn (course_of h (ScanZero zero)) (course_of h (ScanZero now)) slots
   zero_goes_on now w next same = ReadsZero v.page w.page (ap zero_stage is) ((λ i. record (begun h) { stage = zero_stage (next i); base = same i }) ∙ sym (ap (λ (c : Course). record c { stage = stages.ScanZero w.page }) zero_read))
 
-  pub zero_finds : (now : Scanned) (d : TableDesc) (new : Course) → now.seen ≡ with_page zero.seen v.page slots → new ≡ record (course_of h (AskTable now d)) { stage = table_stage h.at d.root } → TakesOn (course_of h (ScanZero zero)) new slots
-  zero_finds now d new same e = FindsTable v.page d (ap zero_stage is) (e ∙ (λ i. record (begun h) { stage = table_stage h.at d.root; base = same i; desc = Some d }) ∙ sym (ap (λ (c : Course). record c { stage = table_stage h.at d.root; desc = Some d }) zero_read))
+  pub zero_finds : (now : Scanned) (d : TableDesc) (new : Course) → now.seen ≡ with_page zero.seen v.page slots → new ≡ record (begun h) { stage = table_stage (second_mode h.stmt) h.at d.root; base = now.seen; desc = Some d } → TakesOn (course_of h (ScanZero zero)) new slots
+  zero_finds now d new same e = FindsTable v.page d (ap zero_stage is) (e ∙ (λ i. record (begun h) { stage = table_stage (second_mode h.stmt) h.at d.root; base = same i; desc = Some d })
+      ∙ sym (ap (λ (c : Course). record c { stage = table_stage (second_mode h.stmt) h.at d.root; desc = Some d }) zero_read))
+
+  pub zero_lacks : (now : Scanned) (number : TableNo) → now.seen ≡ with_page zero.seen v.page slots → TakesOn (course_of h (ScanZero zero)) (course_of h (Defining now number)) slots
+  zero_lacks now number same = FindsNone v.page (ap zero_stage is) ((λ i. record (begun h) { stage = stages.Plan; base = same i }) ∙ sym (ap (λ (c : Course). record c { stage = stages.Plan }) zero_read))
 
   -- over each database
   pub over_zero : (P : List TableDesc → Tables → Type 0) → OfBases (with_page zero.seen v.page slots) P → (files : List ℕ) (at : SlotsAt) (ds : List TableDesc) (tables : Tables) → IsOver files at ds tables (read slots (course_of h (ScanZero zero))) → P ds tables
@@ -136,11 +143,24 @@ module _ (h : Headed) (zero : Scanned) (d : TableDesc) (own : Scanned) (f : IsFo
 
 -- the table that was found, by what was read of table 0
 pub found_in : (h : Headed) (now : Scanned) (looked : List Looked) (stmt : Stmt) (d : TableDesc) → IsScan now → now.next ≡ None → now.root ≡ zero_root → looked ≡ now.seen → stmt ≡ h.stmt
-    → OfBases looked (λ ds tables. IsFound ds tables stmt (Some d)) → IsTableOf stmt d → IsFoundIn h.stmt now.seen d
-found_in h now looked stmt d scan none root same lent found table = record {
+    → OfBases looked (λ ds tables. IsFound ds tables stmt (Some d)) → IsTableOf stmt d → creates stmt ≡ false → IsFoundIn h.stmt now.seen d
+found_in h now looked stmt d scan none root same lent found table there = record {
   whole = read_whole now zero_root scan none root;
   found = λ files at ds tables b shows. subst (λ x. IsFound ds tables x (Some d)) lent (found files at ds tables b (subst (λ (l : List Looked). Shows l at) (sym same) shows));
   table = subst (λ x. IsTableOf x d) lent table;
+  there = ap creates (sym lent) ∙ there;
+}
+
+-- none of its name was found
+pub lacking_in : (h : Headed) (now : Scanned) (looked : List Looked) (stmt : Stmt) (number : TableNo) → IsScan now → now.next ≡ None → now.root ≡ zero_root → looked ≡ now.seen → stmt ≡ h.stmt
+    → OfBases looked (λ ds tables. IsFound ds tables stmt None) → OfBases looked (λ ds tables. has_number ds number.0 ≡ false) → creates stmt ≡ true → 1 ≤ number.0 → number.0 < 2 ^ 31 → IsLackingIn h.stmt now.seen number
+lacking_in h now looked stmt number scan none root same lent found new makes some small = record {
+  whole = read_whole now zero_root scan none root;
+  found = λ files at ds tables b shows. subst (λ x. IsFound ds tables x None) lent (found files at ds tables b (subst (λ (l : List Looked). Shows l at) (sym same) shows));
+  new = λ files at ds tables b shows. new files at ds tables b (subst (λ (l : List Looked). Shows l at) (sym same) shows);
+  makes = ap creates (sym lent) ∙ makes;
+  some = some;
+  small = small;
 }
 
 pub effect_in : (looked own : List Looked) (cols : List Column) (root : PageId) (stmt of : Stmt) (effect : Effect) → looked ≡ own → stmt ≡ of → OfRows cols root looked (λ rows. IsEffect stmt (record { cols = cols; rows = rows }) effect) → OfRows cols root own (λ rows. IsEffect of (record { cols = cols; rows = rows }) effect)
@@ -166,8 +186,9 @@ read_stmt stages.Edit slots c = refl
 read_stmt stages.End slots c = refl
 
 pub takes_stmt : (old new : Course) (slots : List (List ℕ)) → TakesOn old new slots → new.stmt ≡ old.stmt
-takes_stmt old new slots (ReadsZero page next at is) = ap (λ (c : Course). c.stmt) is ∙ read_stmt old.stage slots old
-takes_stmt old new slots (FindsTable page d at is) = ap (λ (c : Course). c.stmt) is ∙ read_stmt old.stage slots old
-takes_stmt old new slots (ReadsOwn page next was rows at is) = ap (λ (c : Course). c.stmt) is ∙ read_stmt old.stage slots old
-takes_stmt old new slots (ComesToPlan page was at is) = ap (λ (c : Course). c.stmt) is ∙ read_stmt old.stage slots old
-takes_stmt old new slots (Answers page was reply at select is meant) = ap (λ (c : Course). c.stmt) is
+takes_stmt was new slots (ReadsZero page next at is) = ap (λ (c : Course). c.stmt) is ∙ read_stmt was.stage slots was
+takes_stmt was new slots (FindsTable page d at is) = ap (λ (c : Course). c.stmt) is ∙ read_stmt was.stage slots was
+takes_stmt was new slots (FindsNone page at is) = ap (λ (c : Course). c.stmt) is ∙ read_stmt was.stage slots was
+takes_stmt was new slots (ReadsOwn page next had rows at is) = ap (λ (c : Course). c.stmt) is ∙ read_stmt was.stage slots was
+takes_stmt was new slots (ComesToPlan page had at is) = ap (λ (c : Course). c.stmt) is ∙ read_stmt was.stage slots was
+takes_stmt was new slots (Answers page had reply at select is meant) = ap (λ (c : Course). c.stmt) is

@@ -4,3 +4,6 @@ pub mod FeedLemmas
 pub mod PlanLemmas
 pub mod WriteLemmas
 pub mod NeedLemmas
+mod TellLemmas
+mod MadeLemmas
+mod GoneLemmas

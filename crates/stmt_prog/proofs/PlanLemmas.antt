@@ -1,6 +1,6 @@
 -- What a plan comes to, over each database that was read so.
 use Rattle.std.proofs.Common.{refl, ◌≡◌, ℕ, zero, suc, ◌<◌, ◌^◌, true, List, [], ◌∷◌, length, map, drop, replicate, ap, sym, ◌∙◌, subst, arith}
-use Rattle.std.specs.Prelude.{Some, All}
+use Rattle.std.specs.Prelude.{Some, None, All}
 use Rattle.std.specs.FinMap as finite
 use Rattle.std.specs.List.{AllByRecursion}
 use Rattle.std.proofs.lemmas.List.{length-replicate}
@@ -19,7 +19,7 @@ use Rattle.page_tables.specs.Owners.{owns}
 use Rattle.page_tables.specs.Sheets.{sheets}
 use Rattle.table_scan.specs.Scanned.{Scanned}
 use Rattle.step_words.specs.Courses.{Course, Plain}
-use Rattle.stmt_course.specs.Keeping.{IsTableOf}
+use Rattle.stmt_course.specs.Keeping.{IsTableOf, IsDraftBelow}
 use Rattle.stmt_course.specs.Planning.{stage_for, Plans}
 use Rattle.stmt_course.proofs.StandLemmas.{may_all_be_put}
 use Rattle.stmt_course.proofs.ApplyLemmas.{effect_applied}
@@ -29,6 +29,7 @@ use Rattle.stmt_eval.specs.Verdicts.{IsEffect}
 use Rattle.stmt_prog.specs.declared.queue.Queue.{Queue}
 use Rattle.stmt_prog.specs.declared.refusal.Refusal.{Refusal}
 use Rattle.stmt_prog.specs.declared.state.State.TheVariants.{Planning, Writing}
+use Rattle.stmt_prog.specs.Drafts.{all_drafts, IsTold}
 use Rattle.stmt_prog.specs.Ending.{Ends}
 use Rattle.stmt_prog.specs.Feeding.{OverEach}
 use Rattle.stmt_prog.specs.Heads.{Headed}
@@ -38,14 +39,19 @@ use Rattle.stmt_prog.specs.Refusing.{IfSaid}
 use Rattle.stmt_prog.specs.States.{begun, course_of, IsFoundIn, IsQueue}
 use Rattle.stmt_prog.proofs.FeedLemmas.{its_table, table_is_in}
 use Rattle.stmt_prog.proofs.ReadLemmas.{said_again}
+use Rattle.stmt_prog.proofs.WriteLemmas.{plain_all}
 
-by_recursion : (P : Edit → Type 0) (xs : List Edit) → All P xs → AllByRecursion P xs
+pub by_recursion : (P : Edit → Type 0) (xs : List Edit) → All P xs → AllByRecursion P xs
 by_recursion P [] a = tt
 by_recursion P (x ∷ xs) a = (a 0 x (omega arith), by_recursion P xs (λ k d lt. a (suc k) d (omega arith)))
 
-all_same : (x n : ℕ) → x < 2 ^ 31 → AllByRecursion (λ number. number < 2 ^ 31) (replicate n x)
+pub all_same : (x n : ℕ) → x < 2 ^ 31 → AllByRecursion (λ number. number < 2 ^ 31) (replicate n x)
 all_same x zero lt = tt
 all_same x (suc n) lt = (lt, all_same x n lt)
+
+-- edits of which none tells a new table speak of claimed pages alone
+pub none_told : (q : Queue) (n : ℕ) → q.told ≡ None → AllByRecursion (IsBelow n) q.edits.items → AllByRecursion (IsDraftBelow n) (all_drafts q.told q.edits.items)
+none_told q n none a = subst (λ o. AllByRecursion (IsDraftBelow n) (all_drafts o q.edits.items)) (sym none) (plain_all q.edits.items (IsDraftBelow n) a)
 
 pub queue_is : (stmt : Stmt) (d : TableDesc) (own : List Looked) (cuts puts : List (List Value)) (q : Queue) → IsTableOf stmt d → IsPlannedQueue d own cuts puts q → IsQueue q
 queue_is stmt d own cuts puts q table p =
@@ -53,23 +59,25 @@ queue_is stmt d own cuts puts q table p =
     record {
       taken = omega (arith, ap length p.taken);
       done = omega (arith, p.done);
-      below = subst (λ m. AllByRecursion (IsBelow m) q.edits.items) (sym many) (by_recursion (IsBelow p.n) q.edits.items p.plan.numbers);
+      below = subst (λ m. AllByRecursion (IsDraftBelow m) (all_drafts q.told q.edits.items)) (sym many) (none_told q p.n p.told (by_recursion (IsBelow p.n) q.edits.items p.plan.numbers));
       small = subst (AllByRecursion (λ number. number < 2 ^ 31)) (sym p.owners) (all_same d.number.0 p.n table.desc.head.number);
+      told = subst IsTold (sym p.told) tt;
     }
 
-pub nothing_is : (q : Queue) → q.owners.items ≡ [] → q.taken.items ≡ [] → q.edits.items ≡ [] → q.done ≡ 0 → IsQueue q
-nothing_is q owners taken edits done = record {
+pub nothing_is : (q : Queue) → q.owners.items ≡ [] → q.taken.items ≡ [] → q.edits.items ≡ [] → q.done ≡ 0 → q.told ≡ None → IsQueue q
+nothing_is q owners taken edits done told = record {
   taken = omega (arith, ap length taken);
   done = omega (arith, done);
-  below = subst (AllByRecursion (IsBelow (length q.owners.items))) (sym edits) tt;
+  below = none_told q (length q.owners.items) told (subst (AllByRecursion (IsBelow (length q.owners.items))) (sym edits) tt);
   small = subst (AllByRecursion (λ number. number < 2 ^ 31)) (sym owners) tt;
+  told = subst IsTold (sym told) tt;
 }
 
-pub ends : (h : Headed) (d : TableDesc) (own : List Looked) (q : Queue) (effect : Effect) → q.owners.items ≡ [] → q.taken.items ≡ [] → q.edits.items ≡ [] → q.done ≡ 0
-    → OfRows d.cols d.root own (λ rows. IsEffect h.stmt (record { cols = d.cols; rows = rows }) effect) → Ends h d own (course_of h (Writing d q effect.reply))
-ends h d own q effect owners taken edits done is = record {
+pub ends : (h : Headed) (d : TableDesc) (own : List Looked) (q : Queue) (effect : Effect) → q.owners.items ≡ [] → q.taken.items ≡ [] → q.edits.items ≡ [] → q.done ≡ 0 → q.told ≡ None
+    → OfRows d.cols d.root own (λ rows. IsEffect h.stmt (record { cols = d.cols; rows = rows }) effect) → Ends h d own (course_of h (Writing (Some d) q effect.reply))
+ends h d own q effect owners taken edits done told is = record {
   reply = effect.reply;
-  is = λ i. record (begun h) { stage = stage_for (owners i) (taken i) (drop (done i) (map Plain (edits i))); desc = Some d; owners = owners i; taken = taken i; edits = drop (done i) (map Plain (edits i)); reply = Some effect.reply };
+  is = λ i. record (begun h) { stage = stage_for (owners i) (taken i) (drop (done i) (all_drafts (told i) (edits i))); desc = Some d; owners = owners i; taken = taken i; edits = drop (done i) (all_drafts (told i) (edits i)); reply = Some effect.reply };
   over = λ at owns rows table shows. sym (ap (λ x. x.1) (is at owns rows table shows));
 }
 
@@ -94,7 +102,7 @@ module _ (h : Headed) (sound : is_sound h.stmt ≡ true) (of_rows : is_of_rows h
         let may = may_all_be_put h.stmt d.cols _ rows effect sound f.table.desc.sound its.1.pages.1.gathers (ap (shape_over h.stmt) (sym get) ∙ found.shaped) (is at (owns files at d.number.0) rows its.1.pages over.own) in
         none may at (owns files at d.number.0) rows its.1.pages over.own) said
 
-    pub plans : (q : Queue) → IsPlannedQueue d own.seen effect.cuts effect.puts q → Plans (course_of h (Planning zero d own)) (course_of h (Writing d q effect.reply))
+    pub plans : (q : Queue) → IsPlannedQueue d own.seen effect.cuts effect.puts q → Plans (course_of h (Planning zero d own)) (course_of h (Writing (Some d) q effect.reply))
     plans q p = subst (Plans old) (sym new_is) (record {
       is = refl;
       over = λ files all mine s ds tables few over may.
@@ -117,5 +125,5 @@ module _ (h : Headed) (sound : is_sound h.stmt ≡ true) (of_rows : is_of_rows h
           };
     })
       where
-        new_is : course_of h (Writing d q effect.reply) ≡ record old { stage = stage_for (replicate p.n d.number.0) [] (map Plain q.edits.items); base = []; seen = []; owners = replicate p.n d.number.0; taken = []; edits = map Plain q.edits.items; reply = Some effect.reply }
-        new_is = λ i. record (begun h) { stage = stage_for (p.owners i) (p.taken i) (drop (p.done i) (map Plain q.edits.items)); desc = Some d; owners = p.owners i; taken = p.taken i; edits = drop (p.done i) (map Plain q.edits.items); reply = Some effect.reply }
+        new_is : course_of h (Writing (Some d) q effect.reply) ≡ record old { stage = stage_for (replicate p.n d.number.0) [] (map Plain q.edits.items); base = []; seen = []; owners = replicate p.n d.number.0; taken = []; edits = map Plain q.edits.items; reply = Some effect.reply }
+        new_is = λ i. record (begun h) { stage = stage_for (p.owners i) (p.taken i) (drop (p.done i) (all_drafts (p.told i) q.edits.items)); desc = Some d; owners = p.owners i; taken = p.taken i; edits = drop (p.done i) (all_drafts (p.told i) q.edits.items); reply = Some effect.reply }

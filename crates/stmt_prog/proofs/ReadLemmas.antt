@@ -1,6 +1,6 @@
 -- What pages that were read tell, over each table and database that was read so.
 use Rattle.std.proofs.Common.{refl, ◌≡◌, ℕ, Bool, true, false, cond, List, [], ◌∷◌, ap, sym, ◌∙◌, subst, arith, Result, Err, Ok, IfOk, suc, zero}
-use Rattle.std.specs.Prelude.{Option, Some, None}
+use Rattle.std.specs.Prelude.{Option, Some, None, All, ◌<◌, ◌^◌, ◌-◌}
 use Rattle.std.specs.FinMap as finite
 use Rattle.std.specs.List.{Any, AllByRecursion}
 use Rattle.std.specs.Str.{bytes_eq}
@@ -9,16 +9,20 @@ use Rattle.page_base.specs.declared.numbers.PageId.{PageId}
 use Rattle.page_base.specs.declared.value.Value.{Value}
 use Rattle.page_fmt.specs.Seen.{SlotsAt, Looked, Shows}
 use Rattle.plain_model.specs.declared.reply.Message.{Message}
+use Rattle.plain_model.specs.declared.reply.TheConstants.Message.{NO_TABLE, TABLE_IS_THERE}
 use Rattle.plain_model.specs.declared.stmt.Stmt.{Stmt}
+use Rattle.plain_model.specs.declared.stmt.Stmt.TheVariants.{CreateTable, DropTable, Insert, Select, Update, Delete}
+use Rattle.plain_model.specs.Free.{is_of_tables}
+use Rattle.plain_model.specs.Messages.{plain}
 use Rattle.plain_model.specs.Meaning.{shape}
-use Rattle.plain_model.specs.Statements.{shape_over, table_named}
+use Rattle.plain_model.specs.Statements.{shape_over, is_of_rows, table_named}
 use Rattle.plain_model.specs.Tables.{Rows, Table, Tables, IsTable}
 use Rattle.plain_steps.proofs.LockLemmas.{same_bytes, bytes_same}
 use Rattle.sys_cat.specs.declared.desc.TableDesc.{TableDesc}
 use Rattle.sys_cat.specs.declared.desc.DescRefusal.{DescRefusal}
 use Rattle.sys_cat.specs.declared.desc.DescRefusal.TheVariants as descs
 use Rattle.sys_cat.specs.Answers.{GivesDescs}
-use Rattle.sys_cat.specs.Lists.{AreTables, AreDescs, IsDesc}
+use Rattle.sys_cat.specs.Lists.{AreTables, AreDescs, IsDesc, has_number}
 use Rattle.sys_cat.specs.Rows.{table_0, zero_root}
 use Rattle.table_walk.specs.declared.find.Find.TheVariants as finds
 use Rattle.table_walk.specs.declared.refusal.SeenRefusal.{SeenRefusal}
@@ -33,6 +37,7 @@ use Rattle.stmt_course.specs.Knowing.{desc_named, IsFound}
 use Rattle.stmt_course.proofs.StandLemmas.{is_table, asked_all}
 use Rattle.stmt_prog.specs.declared.refusal.Refusal.{Refusal}
 use Rattle.stmt_prog.specs.declared.refusal.Refusal.TheVariants as ours
+use Rattle.stmt_prog.specs.Heads.{creates, drops}
 use Rattle.stmt_prog.specs.Reading.{HasCols, OfBases, OfRows}
 use Rattle.stmt_prog.specs.Refusing.{IfSaid, of_seen, of_descs}
 
@@ -123,6 +128,60 @@ pub shape_is : (stmt : Stmt) (read : List TableDesc) (looked : List Looked) (m :
     → ((o : Option Table) → HasCols (desc_named read (table_named stmt)) o → shape_over stmt o ≡ m) → OfBases looked (λ ds tables. shape stmt tables ≡ m)
 shape_is stmt read looked m are f = λ files at ds tables b shows.
     f (finite.get tables (table_named stmt)) (subst (λ xs. HasCols (desc_named xs (table_named stmt)) (finite.get tables (table_named stmt))) (sym (are files at ds tables b shows)) (base_cols files at ds tables (table_named stmt) b))
+
+-- the shapes of statements that make and drop tables
+pub new_shape : (stmt : Stmt) → creates stmt ≡ true → (o : Option Table) → HasCols None o → shape_over stmt o ≡ None
+new_shape (CreateTable name cols) e None h = refl
+new_shape (CreateTable name cols) e (Some t) h = absurd h
+new_shape stmt e o h = absurd (let wrong : false ≡ true = e in cc)
+
+pub taken_shape : (stmt : Stmt) → creates stmt ≡ true → (d : TableDesc) (o : Option Table) → HasCols (Some d) o → shape_over stmt o ≡ Some (plain TABLE_IS_THERE)
+taken_shape (CreateTable name cols) e d (Some t) h = refl
+taken_shape (CreateTable name cols) e d None h = absurd h
+taken_shape stmt e d o h = absurd (let wrong : false ≡ true = e in cc)
+
+pub drop_shape : (stmt : Stmt) → drops stmt ≡ true → (d : TableDesc) (o : Option Table) → HasCols (Some d) o → shape_over stmt o ≡ None
+drop_shape (DropTable name) e d (Some t) h = refl
+drop_shape (DropTable name) e d None h = absurd h
+drop_shape stmt e d o h = absurd (let wrong : false ≡ true = e in cc)
+
+pub no_shape : (stmt : Stmt) → is_of_tables stmt ≡ true → creates stmt ≡ false → (o : Option Table) → HasCols None o → shape_over stmt o ≡ Some (plain NO_TABLE)
+no_shape (CreateTable name cols) e f o h = absurd (let wrong : true ≡ false = f in cc)
+no_shape (DropTable name) e f None h = refl
+no_shape (Insert i) e f None h = refl
+no_shape (Select s) e f None h = refl
+no_shape (Update u) e f None h = refl
+no_shape (Delete d) e f None h = refl
+no_shape stmt e f (Some t) h = absurd h
+no_shape stmt e f None h = absurd (let wrong : false ≡ true = e in cc)
+
+pub of_rows : (stmt : Stmt) → is_of_tables stmt ≡ true → creates stmt ≡ false → drops stmt ≡ false → is_of_rows stmt ≡ true
+of_rows (CreateTable name cols) e f g = absurd (let wrong : true ≡ false = f in cc)
+of_rows (DropTable name) e f g = absurd (let wrong : true ≡ false = g in cc)
+of_rows (Insert i) e f g = refl
+of_rows (Select s) e f g = refl
+of_rows (Update u) e f g = refl
+of_rows (Delete d) e f g = refl
+of_rows stmt e f g = absurd (let wrong : false ≡ true = e in cc)
+
+-- none of the name was found
+pub lacks_is : (stmt : Stmt) (read : List TableDesc) (looked : List Looked) → OfBases looked (λ ds tables. read ≡ ds) → desc_named read (table_named stmt) ≡ None → creates stmt ≡ true → OfBases looked (λ ds tables. IsFound ds tables stmt None)
+lacks_is stmt read looked are is makes = λ files at ds tables b shows. record {
+  shaped = shape_is stmt read looked None are (λ o h. new_shape stmt makes o (subst (λ x. HasCols x o) is h)) files at ds tables b shows;
+  desc = subst (λ xs. desc_named xs (table_named stmt) ≡ None) (are files at ds tables b shows) is;
+}
+
+pub taken_is : (stmt : Stmt) (read : List TableDesc) (looked : List Looked) (d : TableDesc) → OfBases looked (λ ds tables. read ≡ ds) → desc_named read (table_named stmt) ≡ Some d → creates stmt ≡ true
+    → OfBases looked (λ ds tables. shape stmt tables ≡ Some (plain TABLE_IS_THERE))
+taken_is stmt read looked d are is makes = shape_is stmt read looked (Some (plain TABLE_IS_THERE)) are (λ o h. taken_shape stmt makes d o (subst (λ x. HasCols x o) is h))
+
+pub number_is : (read : List TableDesc) (looked : List Looked) (n : ℕ) → OfBases looked (λ ds tables. read ≡ ds) → has_number read n ≡ false → OfBases looked (λ ds tables. has_number ds n ≡ false)
+number_is read looked n are is = λ files at ds tables b shows. subst (λ xs. has_number xs n ≡ false) (are files at ds tables b shows) is
+
+pub few_numbers : (ds : List TableDesc) → AllByRecursion IsDesc ds → All (λ d. d.number.0 < 2 ^ 32 - 1) ds
+few_numbers [] a k d lt = absurd (omega arith)
+few_numbers (x ∷ xs) a zero d lt = omega (arith, a.0.head.number)
+few_numbers (x ∷ xs) a (suc k) d lt = few_numbers xs a.1 k d (omega arith)
 
 pub found_is : (stmt : Stmt) (read : List TableDesc) (looked : List Looked) (d : TableDesc) → OfBases looked (λ ds tables. read ≡ ds) → desc_named read (table_named stmt) ≡ Some d
     → ((o : Option Table) → HasCols (desc_named read (table_named stmt)) o → shape_over stmt o ≡ None) → OfBases looked (λ ds tables. IsFound ds tables stmt (Some d))

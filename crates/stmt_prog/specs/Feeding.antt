@@ -1,11 +1,13 @@
 -- Where a statement goes from its stage, with what it needed.
 use Rattle.std.specs.Prelude.{ℕ, ◌≡◌, Bool, true, false, List, [], ◌∷◌, ◌++◌, Option, Some, None}
+use Rattle.page_base.specs.declared.numbers.Mode.{Mode}
 use Rattle.page_base.specs.declared.numbers.PageId.{PageId}
 use Rattle.plain_model.specs.declared.reply.Reply.{Reply}
 use Rattle.plain_model.specs.declared.stmt.Stmt.{Stmt}
 use Rattle.plain_model.specs.declared.stmt.Stmt.TheVariants.{Select}
 use Rattle.plain_model.specs.Meaning.{change_and_reply}
 use Rattle.plain_model.specs.Tables.{Tables}
+use Rattle.plain_steps.specs.Phases.{second_mode}
 use Rattle.page_fmt.specs.Seen.{SlotsAt}
 use Rattle.sys_cat.specs.declared.desc.TableDesc.{TableDesc}
 use Rattle.sys_cat.specs.Rows.{zero_root}
@@ -24,10 +26,12 @@ first_stage Master = stages.AskAll
 first_stage Source = stages.AskAll
 first_stage Snap = stages.ScanZero zero_root
 
-abbrev pub table_stage : DbKind → PageId → Stage
-table_stage Master root = stages.AskTable
-table_stage Source root = stages.AskTable
-table_stage Snap root = stages.Scan root false
+-- nor does one that needs no lock on its table, which it reads at once
+abbrev pub table_stage : Option Mode → DbKind → PageId → Stage
+table_stage None at root = stages.Scan root false
+table_stage (Some mode) Master root = stages.AskTable
+table_stage (Some mode) Source root = stages.AskTable
+table_stage (Some mode) Snap root = stages.Scan root false
 
 -- it asks for a lock
 abbrev pub asks : Stage → Bool
@@ -71,11 +75,12 @@ is_select stmt = false
 abbrev pub OverEach : Course → (Tables → Type 0) → Type 0
 OverEach c P = (files : List ℕ) (at : SlotsAt) (ds : List TableDesc) (tables : Tables) → IsOver files at ds tables c → P tables
 
--- With a page read it reads on, or has found its table and asks for its lock, or has read that too and plans; or it is a
--- SELECT, has its reply, and forgets what it has read.
+-- With a page read it reads on; or it has found its table and asks for its lock, or reads it; or it has read that too and
+-- plans, or has found none of its name, which it makes; or it is a SELECT, has its reply, and forgets what it has read.
 pub data TakesOn (old new : Course) (slots : List (List ℕ)) : Type 0 where
   ReadsZero : (page next : PageId) → old.stage ≡ stages.ScanZero page → new ≡ record (read slots old) { stage = stages.ScanZero next } → TakesOn old new slots
-  FindsTable : (page : PageId) (d : TableDesc) → old.stage ≡ stages.ScanZero page → new ≡ record (read slots old) { stage = table_stage old.at d.root; desc = Some d } → TakesOn old new slots
+  FindsTable : (page : PageId) (d : TableDesc) → old.stage ≡ stages.ScanZero page → new ≡ record (read slots old) { stage = table_stage (second_mode old.stmt) old.at d.root; desc = Some d } → TakesOn old new slots
+  FindsNone : (page : PageId) → old.stage ≡ stages.ScanZero page → new ≡ record (read slots old) { stage = stages.Plan } → TakesOn old new slots
   ReadsOwn : (page next : PageId) (was rows : Bool) → old.stage ≡ stages.Scan page was → new ≡ record (read slots old) { stage = stages.Scan next rows } → TakesOn old new slots
   ComesToPlan : (page : PageId) (was : Bool) → old.stage ≡ stages.Scan page was → new ≡ record (read slots old) { stage = stages.Plan } → TakesOn old new slots
   Answers : (page : PageId) (was : Bool) (reply : Reply) → old.stage ≡ stages.Scan page was → is_select old.stmt ≡ true → new ≡ record old { stage = stages.End; base = []; seen = []; reply = Some reply }

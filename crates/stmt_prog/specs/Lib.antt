@@ -1,6 +1,8 @@
 pub mod Refusing
 pub mod Reading
 pub mod Heads
+pub mod Placing
+pub mod Drafts
 pub mod States
 pub mod Needs
 pub mod Feeding

@@ -9,15 +9,16 @@ ghost use Rattle.table_walk.specs.Walk.{IsDone};
 ghost use Rattle.page_tables.specs.Layout as layout;
 ghost use Rattle.stmt_course.specs.Keeping.{IsTableOf};
 ghost use Rattle.stmt_prog.specs.Ending.{Ends};
+ghost use Rattle.plain_steps.specs.Phases.{second_mode};
 ghost use Rattle.stmt_prog.specs.Feeding.{table_stage, is_select, read, OverEach, TakesOn};
 ghost use Rattle.stmt_prog.specs.Reading.{OfRows};
 ghost use Rattle.stmt_prog.specs.Refusing.{IfSaid};
-ghost use Rattle.stmt_prog.specs.States.{course_of, IsFoundIn, IsReading};
+ghost use Rattle.stmt_prog.specs.States.{begun, course_of, IsFoundIn, IsReading};
 
-use crate::head::Head;
+use crate::head::{Head, creates};
 use crate::prog::Prog;
 use crate::queue::Queue;
-use crate::reading::{effect, found};
+use crate::reading::{effect, found, lacking};
 use crate::refusal::Refusal;
 use crate::state::State;
 use page_base::{Image, NoMemory};
@@ -28,17 +29,15 @@ use step_words::DbKind;
 use sys_cat::TableDesc;
 use table_scan::Scan;
 
-// The statement's table was found: its lock comes next, and in a snapshot its root.
+// The statement's table was found: its lock comes next where it needs one, and else its root.
 fn with_table(alloc: Global, head: Head, zero: Scan, desc: TableDesc) -> Result<Prog, NoMemory>
     requires { IsFoundIn head.stmt zero.seen desc }
-    ensures { IfOk result (λ p. p ≡ record (course_of head (State.AskTable zero desc)) { stage = table_stage head.at desc.root }) }
+    ensures { IfOk result (λ p. p ≡ record (begun head) { stage = table_stage (second_mode head.stmt) head.at desc.root; base = zero.seen; desc = Some desc }) }
 {
-    let state = match head.at() {
-        DbKind::Snap => {
-            let own = Scan::new(alloc, desc.root)?;
-            State::ScanOwn { zero, desc, own }
-        }
-        DbKind::Master | DbKind::Source => State::AskTable { zero, desc },
+    let own = Scan::new(alloc, desc.root)?;
+    let state = match (head.second(), head.at()) {
+        (Some(_), DbKind::Master | DbKind::Source) => State::AskTable { zero, desc, own },
+        _ => State::ScanOwn { zero, desc, own },
     };
     Ok(Prog { head, state })
 }
@@ -63,6 +62,13 @@ pub(crate) fn read_zero(
         return Ok(Prog {
             head,
             state: State::ScanZero(now),
+        });
+    }
+    if creates(stmt) {
+        let number = lacking(alloc, stmt, &head.name(), now.seen())?;
+        return Ok(Prog {
+            head,
+            state: State::Defining { zero: now, number },
         });
     }
     let desc = found(alloc, stmt, &head.name(), now.seen())?;
@@ -94,7 +100,7 @@ fn answered(
     Ok(Prog {
         head,
         state: State::Writing {
-            desc,
+            desc: Some(desc),
             queue: Queue::empty(alloc),
             reply: effect.reply,
         },

@@ -3,8 +3,9 @@
 ghost use Rattle.std.specs.Prelude.{◌≡◌, true, MatchOption, IfOk, false};
 ghost use Rattle.plain_model.specs.Free.{is_of_tables};
 ghost use Rattle.plain_model.specs.Sound.{is_sound};
-ghost use Rattle.plain_model.specs.Statements.{is_of_rows, table_named};
+ghost use Rattle.plain_model.specs.Statements.{table_named};
 ghost use Rattle.plain_steps.specs.Phases.{first_mode, second_mode};
+ghost use Rattle.stmt_prog.specs.Heads.{creates, drops, defines_well};
 
 use page_base::{Mode, Name};
 use plain_model::Stmt;
@@ -36,11 +37,12 @@ impl Model for Head {
     ghost invariant = { λ h. IsHead h.stmt.value h.first h.second h.name };
 }
 
-// The table of a statement about rows.
+// The table of a statement on tables.
 fn table_of(stmt: &Stmt) -> Option<Name>
-    ensures { MatchOption result (is_of_rows stmt.now ≡ false) (λ name. name ≡ table_named stmt.now) }
+    ensures { MatchOption result (is_of_tables stmt.now ≡ false) (λ name. name ≡ table_named stmt.now) }
 {
     match stmt {
+        Stmt::CreateTable(name, _) | Stmt::DropTable(name) => Some(*name),
         Stmt::Insert(insert) => Some(insert.table),
         Stmt::Select(select) => Some(select.table),
         Stmt::Update(update) => Some(update.table),
@@ -70,11 +72,26 @@ fn all_mode(stmt: &Stmt) -> Mode
     }
 }
 
+/// Whether the statement makes a table.
+pub(crate) fn creates(stmt: &Stmt) -> bool
+    ensures { result ≡ creates stmt.now }
+{
+    matches!(stmt, Stmt::CreateTable(_, _))
+}
+
+/// Whether it drops one.
+pub(crate) fn drops(stmt: &Stmt) -> bool
+    ensures { result ≡ drops stmt.now }
+{
+    matches!(stmt, Stmt::DropTable(_))
+}
+
 impl Head {
-    /// Of a statement about rows in a database of this kind.
+    /// Of a statement on tables in a database of this kind.
     pub(crate) fn of(stmt: &Stmt, at: DbKind) -> Head
-        requires rows { is_of_rows stmt.now ≡ true }
+        requires tables { is_of_tables stmt.now ≡ true }
         requires sound { is_sound stmt.now ≡ true }
+        requires well { defines_well stmt.now ≡ true }
         ensures { result ≡ record { stmt = stmt.now; at = at } }
     {
         let name = table_of(stmt).unwrap();
@@ -87,12 +104,12 @@ impl Head {
         }
     }
 
-    /// The kind of its database. The statement is sound, and about rows.
+    /// The kind of its database. The statement is sound, and about tables.
     pub(crate) fn at(&self) -> DbKind
         ensures is { result ≡ self.now.at }
-        ensures rows { is_of_rows self.now.stmt ≡ true }
         ensures tables { is_of_tables self.now.stmt ≡ true }
         ensures sound { is_sound self.now.stmt ≡ true }
+        ensures well { defines_well self.now.stmt ≡ true }
     {
         self.at
     }

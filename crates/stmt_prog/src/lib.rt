@@ -1,6 +1,8 @@
 //! A statement on tables as a program that is fed with pages.
 #![tactic(auto)]
 
+mod creating;
+mod dropping;
 mod feeding;
 mod head;
 mod law;
@@ -13,6 +15,7 @@ mod queue;
 mod reading;
 mod refusal;
 mod state;
+mod telling;
 #[cfg(test)]
 mod tests;
 mod writing;

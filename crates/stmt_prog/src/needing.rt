@@ -20,7 +20,7 @@ pub(crate) fn need_in(head: &Head, state: &State) -> Need
 {
     let _ = head.at();
     match state {
-        State::AskAll => Need::Lock {
+        State::AskAll(_) => Need::Lock {
             table: LockName::All,
             number: TableNo(0),
             mode: head.first(),
@@ -29,7 +29,11 @@ pub(crate) fn need_in(head: &Head, state: &State) -> Need
             page: zero.next().unwrap().page,
             rows: false,
         },
-        State::AskTable { zero: _, desc } => Need::Lock {
+        State::AskTable {
+            zero: _,
+            desc,
+            own: _,
+        } => Need::Lock {
             table: LockName::Table(desc.name),
             number: desc.number,
             mode: head.second().unwrap_or(Mode::S),
@@ -50,6 +54,7 @@ pub(crate) fn need_in(head: &Head, state: &State) -> Need
             desc: _,
             own: _,
         } => Need::Plan,
+        State::Defining { zero: _, number: _ } => Need::Plan,
         State::Writing {
             desc: _,
             queue,

@@ -4,19 +4,21 @@ ghost use Rattle.std.specs.Prelude.{◌≡◌, ◌+◌, ◌-◌, true, IfOk, IfE
 ghost use Rattle.page_fmt.specs.Content.{content, IsPage};
 ghost use Rattle.plain_model.specs.Sound.{is_sound};
 ghost use Rattle.plain_model.specs.Meaning.{shape};
-ghost use Rattle.plain_model.specs.Statements.{is_of_rows};
+ghost use Rattle.plain_model.specs.Free.{is_of_tables};
 ghost use Rattle.step_words.specs.declared.stage.Stage.TheVariants as stages;
 ghost use Rattle.stmt_course.specs.Keeping.{IsCourse};
 ghost use Rattle.stmt_course.specs.Planning.{Plans};
-ghost use Rattle.stmt_prog.specs.Heads.{Headed};
+ghost use Rattle.stmt_prog.specs.Heads.{Headed, defines_well};
 ghost use Rattle.stmt_prog.specs.States.{begun, course_of, IsState};
 ghost use Rattle.stmt_prog.specs.Needs.{need_of};
 ghost use Rattle.stmt_prog.specs.Feeding.{first_stage, asks, locked, reads, read, OverEach, TakesOn, claimed, edited};
 ghost use Rattle.stmt_prog.specs.Refusing.{IfSaid};
 ghost use Rattle.stmt_prog.specs.Writing.{IsNextEdit};
 
+use crate::creating::made;
+use crate::dropping::gone;
 use crate::feeding::{read_own, read_zero};
-use crate::head::Head;
+use crate::head::{Head, drops};
 use crate::need::Need;
 use crate::needing::need_in;
 use crate::queue::NextEdit;
@@ -31,7 +33,7 @@ use step_words::DbKind;
 use sys_cat::root;
 use table_scan::Scan;
 
-/// A statement about rows, as far as it is.
+/// A statement on tables, as far as it is.
 #[derive(Drop)]
 pub struct Prog {
     pub(crate) head: Head,
@@ -54,35 +56,34 @@ impl Model for Prog {
 }
 
 impl Prog {
-    /// The program of a statement about rows, in a database of this kind. The statement is lent to it at each call again.
+    /// The program of a statement on tables, in a database of this kind. The statement is lent to it at each call again.
     pub fn begin(alloc: Global, stmt: &Stmt, at: DbKind) -> Result<Prog, NoMemory>
-        requires rows { is_of_rows stmt.now ≡ true }
+        requires tables { is_of_tables stmt.now ≡ true }
         requires sound { is_sound stmt.now ≡ true }
+        requires well { defines_well stmt.now ≡ true }
         ensures { IfOk result (λ p. p ≡ record (begun (record { stmt = stmt.now; at = at })) { stage = first_stage at }) }
     {
         let head = Head::of(stmt, at);
+        let zero = Scan::new(alloc, root())?;
         let state = match at {
-            DbKind::Snap => State::ScanZero(Scan::new(alloc, root())?),
-            DbKind::Master | DbKind::Source => State::AskAll,
+            DbKind::Snap => State::ScanZero(zero),
+            DbKind::Master | DbKind::Source => State::AskAll(zero),
         };
         Ok(Prog { head, state })
     }
 
-    /// With the lock for which it asked.
-    pub fn locked(self, alloc: Global) -> Result<Prog, NoMemory>
+    /// With the lock for which it asked. Takes no memory.
+    pub fn locked(self) -> Prog
         requires { asks self.stage ≡ true }
-        ensures { IfOk result (λ p. p ≡ locked self) }
+        ensures { result ≡ locked self }
     {
         let Prog { head, state } = self;
         let state = match state {
-            State::AskAll => State::ScanZero(Scan::new(alloc, root())?),
-            State::AskTable { zero, desc } => {
-                let own = Scan::new(alloc, desc.root)?;
-                State::ScanOwn { zero, desc, own }
-            }
-            _ => return Err(NoMemory),
+            State::AskAll(zero) => State::ScanZero(zero),
+            State::AskTable { zero, desc, own } => State::ScanOwn { zero, desc, own },
+            _ => unreachable!(),
         };
-        Ok(Prog { head, state })
+        Prog { head, state }
     }
 
     /// What it needs next. Takes no memory.
@@ -109,7 +110,7 @@ impl Prog {
             State::ScanOwn { zero, desc, own } => {
                 read_own(alloc, stmt, head, (zero, desc, own), image)
             }
-            _ => Err(Refusal::Memory),
+            _ => unreachable!(),
         }
     }
 
@@ -123,8 +124,14 @@ impl Prog {
     {
         let Prog { head, state } = self;
         match state {
-            State::Planning { zero, desc, own } => planned(alloc, stmt, head, (zero, desc, own)),
-            _ => Err(Refusal::Memory),
+            State::Planning { zero, desc, own } => {
+                if drops(stmt) {
+                    return gone(alloc, stmt, head, (zero, desc, own));
+                }
+                planned(alloc, stmt, head, (zero, desc, own))
+            }
+            State::Defining { zero, number } => made(alloc, stmt, head, zero, number),
+            _ => unreachable!(),
         }
     }
 
@@ -146,7 +153,7 @@ impl Prog {
                     state: State::Writing { desc, queue, reply },
                 })
             }
-            _ => Err(NoMemory),
+            _ => unreachable!(),
         }
     }
 
@@ -161,14 +168,14 @@ impl Prog {
                 queue,
                 reply: _,
             } => queue.next(alloc),
-            _ => Err(NoMemory),
+            _ => unreachable!(),
         }
     }
 
-    /// With that edit done.
-    pub fn edited(self) -> Result<Prog, NoMemory>
+    /// With that edit done. Takes no memory.
+    pub fn edited(self) -> Prog
         requires { self.stage ≡ stages.Edit }
-        ensures { IfOk result (λ p. p ≡ edited self) }
+        ensures { result ≡ edited self }
     {
         let Prog { head, state } = self;
         match state {
@@ -178,12 +185,12 @@ impl Prog {
                 reply,
             } => {
                 queue.done += 1;
-                Ok(Prog {
+                Prog {
                     head,
                     state: State::Writing { desc, queue, reply },
-                })
+                }
             }
-            _ => Err(NoMemory),
+            _ => unreachable!(),
         }
     }
 
@@ -201,10 +208,10 @@ impl Prog {
         }
     }
 
-    /// Its reply.
-    pub fn reply(self) -> Result<Reply, NoMemory>
+    /// Its reply. Takes no memory.
+    pub fn reply(self) -> Reply
         requires { self.stage ≡ stages.End }
-        ensures { IfOk result (λ reply. self.reply ≡ Some reply) }
+        ensures { self.reply ≡ Some result }
     {
         let Prog { head: _, state } = self;
         match state {
@@ -212,8 +219,8 @@ impl Prog {
                 desc: _,
                 queue: _,
                 reply,
-            } => Ok(reply),
-            _ => Err(NoMemory),
+            } => reply,
+            _ => unreachable!(),
         }
     }
 }

@@ -2,7 +2,10 @@
 
 ghost use Rattle.table_walk.specs.declared.plan.Edit.{Edit};
 ghost use Rattle.std.specs.Prelude.{◌≡◌, ◌<◌, ◌≤◌, [], IfOk, IfSome, IfNone, length, slice_index_or};
-ghost use Rattle.step_words.specs.Courses.{Course};
+ghost use Rattle.step_words.specs.Courses.{Course, Plain, Root};
+ghost use Rattle.stmt_course.specs.Keeping.{IsDraftBelow};
+ghost use Rattle.sys_cat.specs.Lists.{IsDesc};
+ghost use Rattle.stmt_prog.specs.Drafts.{draft_at};
 ghost use Rattle.stmt_course.specs.Planning.{stage_for};
 ghost use Rattle.stmt_prog.specs.Needs.{need_at};
 ghost use Rattle.stmt_prog.specs.States.{drafts, IsQueue};
@@ -11,9 +14,19 @@ ghost use Rattle.table_walk.specs.Plans as plans;
 ghost use Rattle.table_walk.specs.Plans.{SpotBelow, NameBelow, IsBelow};
 
 use crate::need::Need;
+use crate::telling::row_told;
 use page_base::{Bytes, NoMemory, PageId};
 use std::alloc::Global;
+use sys_cat::TableDesc;
 use table_walk::{Edit, Spot, address};
+
+/// The edit at this place writes the row that tells a new table, whose root is the page that is claimed with this number.
+#[derive(Debug, Drop)]
+pub(crate) struct Telling {
+    pub at: usize,
+    pub desc: TableDesc,
+    pub new: u32,
+}
 
 /// For which tables pages are claimed, by number, and those that were; the edits, and how many were done.
 #[derive(Debug, Drop)]
@@ -22,6 +35,7 @@ pub(crate) struct Queue {
     pub taken: Vec<PageId>,
     pub edits: Vec<Edit>,
     pub done: usize,
+    pub told: Option<Telling>,
 }
 
 /// The bytes that a slot of a page gets.
@@ -57,7 +71,7 @@ fn named(alloc: Global, names: Option<u32>, taken: &[PageId]) -> Result<Vec<u8>,
 // An edit, all pages being claimed.
 fn spelled(alloc: Global, edit: &Edit, taken: &[PageId]) -> Result<NextEdit, NoMemory>
     requires { IsBelow (length taken.now) edit.now }
-    ensures { IfOk result (Spells taken.now edit.now) }
+    ensures { IfOk result (Spells taken.now (Plain edit.now)) }
 {
     let mut bytes = named(alloc, edit.names, taken)?;
     bytes.extend_from_slice(edit.bytes.as_slice())?;
@@ -68,6 +82,24 @@ fn spelled(alloc: Global, edit: &Edit, taken: &[PageId]) -> Result<NextEdit, NoM
     })
 }
 
+// An edit that tells a new table, all pages being claimed.
+fn told(
+    alloc: Global,
+    edit: &Edit,
+    telling: &Telling,
+    taken: &[PageId],
+) -> Result<NextEdit, NoMemory>
+    requires below { IsDraftBelow (length taken.now) (Root edit.now telling.now.desc telling.now.new) }
+    requires desc { IsDesc telling.now.desc }
+    ensures { IfOk result (Spells taken.now (Root edit.now telling.now.desc telling.now.new)) }
+{
+    Ok(NextEdit {
+        page: place(edit.spot, taken),
+        slot: edit.slot,
+        bytes: row_told(alloc, &telling.desc, taken[telling.new as usize])?,
+    })
+}
+
 impl Queue {
     /// Nothing to claim or to edit. Takes no memory.
     pub(crate) fn empty(alloc: Global) -> Queue
@@ -75,12 +107,14 @@ impl Queue {
         ensures taken { result.taken.items ≡ [] }
         ensures edits { result.edits.items ≡ [] }
         ensures done { result.done ≡ 0 }
+        ensures told { result.told ≡ None }
     {
         Queue {
             owners: Vec::new(alloc),
             taken: Vec::new(alloc),
             edits: Vec::new(alloc),
             done: 0,
+            told: None,
         }
     }
 
@@ -108,8 +142,10 @@ impl Queue {
         ensures there { IfSome result (λ page. self.now.done < length self.now.edits.items) }
         ensures none { IfNone result (length self.now.edits.items ≤ self.now.done) }
     {
-        let edit = self.edits.get(self.done)?;
-        Some(place(edit.spot, self.taken.as_slice()))
+        if self.edits.len() <= self.done {
+            return None;
+        }
+        Some(place(self.edits[self.done].spot, self.taken.as_slice()))
     }
 
     /// The next edit, all pages being claimed.
@@ -117,8 +153,18 @@ impl Queue {
         requires queue { IsQueue self.now }
         requires taken { length self.now.taken.items ≡ length self.now.owners.items }
         requires some { self.now.done < length self.now.edits.items }
-        ensures { IfOk result (λ e. (d : Edit) → Spells self.now.taken.items (slice_index_or self.now.edits.items self.now.done d) e) }
+        ensures { IfOk result (λ e. (d : Edit) → Spells self.now.taken.items (draft_at self.now.told self.now.done (slice_index_or self.now.edits.items self.now.done d)) e) }
     {
-        spelled(alloc, &self.edits[self.done], self.taken.as_slice())
+        let edit = &self.edits[self.done];
+        let taken = self.taken.as_slice();
+        match &self.told {
+            None => spelled(alloc, edit, taken),
+            Some(telling) => {
+                if self.done == telling.at {
+                    return told(alloc, edit, telling, taken);
+                }
+                spelled(alloc, edit, taken)
+            }
+        }
     }
 }

@@ -1,6 +1,7 @@
 //! How far a program is: what it has read, and what it still writes.
 
 use crate::queue::Queue;
+use page_base::TableNo;
 use plain_model::Reply;
 use sys_cat::TableDesc;
 use table_scan::Scan;
@@ -9,13 +10,14 @@ use table_scan::Scan;
 #[derive(Drop)]
 pub(crate) enum State {
     /// It asks for the lock on the table of tables.
-    AskAll,
+    AskAll(Scan),
     /// It reads the table of tables.
     ScanZero(Scan),
     /// It asks for the lock on its table.
     AskTable {
         zero: Scan,
         desc: TableDesc,
+        own: Scan,
     },
     /// It reads its table.
     ScanOwn {
@@ -29,9 +31,14 @@ pub(crate) enum State {
         desc: TableDesc,
         own: Scan,
     },
+    /// It has read that there is no table of the name, and makes one with this number.
+    Defining {
+        zero: Scan,
+        number: TableNo,
+    },
     /// It claims and edits, and then it has ended.
     Writing {
-        desc: TableDesc,
+        desc: Option<TableDesc>,
         queue: Queue,
         reply: Reply,
     },

@@ -1,6 +1,7 @@
 //! What a program plans, once it has read its table.
 
-ghost use Rattle.std.specs.Prelude.{◌≡◌, IfOk, IfErr};
+ghost use Rattle.std.specs.Prelude.{◌≡◌, true, IfOk, IfErr};
+ghost use Rattle.plain_model.specs.Statements.{is_of_rows};
 ghost use Rattle.table_walk.specs.Walk.{IsDone};
 ghost use Rattle.page_tables.specs.Layout as layout;
 ghost use Rattle.stmt_course.specs.Planning.{Plans};
@@ -27,6 +28,7 @@ pub(crate) fn planned(
     parts: (Scan, TableDesc, Scan),
 ) -> Result<Prog, Refusal>
     requires lent { stmt.now ≡ head.stmt }
+    requires rows { is_of_rows stmt.now ≡ true }
     requires found { IsFoundIn head.stmt parts.0.seen parts.1 }
     requires done { IsDone layout.shape.kids parts.2.seen (layout.first parts.1.root) }
     ensures plans { IfOk result (Plans (course_of head (State.Planning parts.0 parts.1 parts.2))) }
@@ -39,7 +41,7 @@ pub(crate) fn planned(
     Ok(Prog {
         head,
         state: State::Writing {
-            desc,
+            desc: Some(desc),
             queue,
             reply: effect.reply,
         },

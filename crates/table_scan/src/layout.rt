@@ -11,8 +11,8 @@ use std::alloc::Global;
 use table_heap::Heap;
 use table_walk::{Layout, SeenRefusal, Visit, is_leaf};
 
-/// The visit of a root.
-pub(crate) fn first(root: PageId) -> Visit
+/// The visit of a table's root. Takes no memory.
+pub fn first(root: PageId) -> Visit
     ensures { result ≡ spec.first root }
 {
     Visit {

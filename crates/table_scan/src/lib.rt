@@ -8,4 +8,5 @@ mod scan;
 mod tests;
 
 pub use law::a_table_is_read_whole;
+pub use layout::first;
 pub use scan::Scan;

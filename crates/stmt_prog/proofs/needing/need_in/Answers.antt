@@ -15,3 +15,6 @@ returns-in-Planning-clause-course c = is_course c.args.head.now c.at.ensures.tab
 
 pub returns-in-Writing-clause-course : goal.returns-in-Writing-clause-course
 returns-in-Writing-clause-course c = is_course c.args.head.now c.at.ensures.tables c.at.ensures.sound c.args.state.now c.requires
+
+pub returns-in-Defining-clause-course : goal.returns-in-Defining-clause-course
+returns-in-Defining-clause-course c = is_course c.args.head.now c.at.ensures.tables c.at.ensures.sound c.args.state.now c.requires

@@ -1,4 +1,5 @@
-use Rattle.std.proofs.Common.{subst, List}
+use Rattle.std.proofs.Common.{subst, sym, ap, ◌∙◌, List}
+use Rattle.plain_model.specs.Statements.{is_of_rows}
 use Rattle.std.specs.Prelude.{All}
 use Rattle.page_fmt.specs.Seen.{Looked}
 use Rattle.table_walk.specs.Tables.{MayPut}
@@ -19,7 +20,7 @@ returns-in_err-effect-clause-damaged c =
     let d = c.args.parts.1 in
     let e : Refusal = c.in_err-effect.field-0.0 in
     handed_on (IfSaid (λ m. OverEach (course_of c.args.head (Planning c.args.parts.0 d c.args.parts.2)) (λ tables. ⊥))) c.from_residual.result e c.from_residual.ensures.1
-    (plan_bad c.args.head c.at.ensures.sound c.at.ensures.rows c.args.parts.0 d c.args.parts.2 c.requires.found e (subst (λ (l : List Looked). IfSaid (λ m. OfRows d.cols d.root l (λ rows. ⊥)) e) c.seen.ensures.is c.in_err-effect.ensures.damaged))
+    (plan_bad c.args.head c.at.ensures.sound (sym (ap is_of_rows c.requires.lent) ∙ c.requires.rows) c.args.parts.0 d c.args.parts.2 c.requires.found e (subst (λ (l : List Looked). IfSaid (λ m. OfRows d.cols d.root l (λ rows. ⊥)) e) c.seen.ensures.is c.in_err-effect.ensures.damaged))
 
 pub returns-in_err-queue-clause-damaged : goal.returns-in_err-queue-clause-damaged
 returns-in_err-queue-clause-damaged c =
@@ -27,7 +28,7 @@ returns-in_err-queue-clause-damaged c =
     let e : Refusal = c.in_err-queue.field-0.0 in
     let f = c.in_ok-effect.effect in
     handed_on (IfSaid (λ m. OverEach (course_of c.args.head (Planning c.args.parts.0 d c.args.parts.2)) (λ tables. ⊥))) c.from_residual-in_err-queue.result e c.from_residual-in_err-queue.ensures.1
-    (queue_bad c.args.head c.at.ensures.sound c.at.ensures.rows c.args.parts.0 d c.args.parts.2 c.requires.found f (effect_in c.seen.result.now c.args.parts.2.seen d.cols d.root c.args.stmt.now c.args.head.stmt f c.seen.ensures.is c.requires.lent c.in_ok-effect.ensures.is) e
+    (queue_bad c.args.head c.at.ensures.sound (sym (ap is_of_rows c.requires.lent) ∙ c.requires.rows) c.args.parts.0 d c.args.parts.2 c.requires.found f (effect_in c.seen.result.now c.args.parts.2.seen d.cols d.root c.args.stmt.now c.args.head.stmt f c.seen.ensures.is c.requires.lent c.in_ok-effect.ensures.is) e
     (subst (λ (l : List Looked). IfSaid (λ m. All (MayPut d.cols) f.puts → OfRows d.cols d.root l (λ rows. ⊥)) e) c.seen-2.ensures.is c.in_err-queue.ensures.damaged))
 
 pub invariant_of-result : goal.invariant_of-result
@@ -39,5 +40,5 @@ pub returns-clause-plans : goal.returns-clause-plans
 returns-clause-plans c =
     let d = c.args.parts.1 in
     let f = c.in_ok-effect.effect in
-    plans c.args.head c.at.ensures.sound c.at.ensures.rows c.args.parts.0 d c.args.parts.2 c.requires.found f (effect_in c.seen.result.now c.args.parts.2.seen d.cols d.root c.args.stmt.now c.args.head.stmt f c.seen.ensures.is c.requires.lent c.in_ok-effect.ensures.is) c.in_ok-queue.queue
+    plans c.args.head c.at.ensures.sound (sym (ap is_of_rows c.requires.lent) ∙ c.requires.rows) c.args.parts.0 d c.args.parts.2 c.requires.found f (effect_in c.seen.result.now c.args.parts.2.seen d.cols d.root c.args.stmt.now c.args.head.stmt f c.seen.ensures.is c.requires.lent c.in_ok-effect.ensures.is) c.in_ok-queue.queue
     (subst (λ (l : List Looked). IsPlannedQueue d l f.cuts f.puts c.in_ok-queue.queue) c.seen-2.ensures.is c.in_ok-queue.ensures.queue)
