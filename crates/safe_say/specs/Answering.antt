@@ -69,7 +69,7 @@ sitting_said s = record s { said = s.said + 1; point = Start; course = None; wai
 
 -- its records are those of earlier statements now
 abbrev pub seat_said : Catalog → Option Stmt → Reply → Seated → Seated
-seat_said cat stmt reply x = record x { sitting = sitting_said (moved cat stmt reply x.sitting); base = length x.work.recs; alloc = 0; copied = None; making = None; gained = [] }
+seat_said cat stmt reply x = record x { sitting = sitting_said (moved cat stmt reply x.sitting); base = length x.work.recs; alloc = 0; copied = None; making = None; gained = []; gathered = [] }
 
 -- Session k answers its statement with this reply; x is its seat, but for the answer, and the catalog is as it is then. Which
 -- records, pins, latches and snapshots go with the answer is said where it is given.

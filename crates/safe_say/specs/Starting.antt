@@ -62,6 +62,6 @@ pub record DoesRestore (e s : State) (k : ℕ) : Type 0 where
 pub record DoesEnd (e s : State) (k : ℕ) : Type 0 where
   pub at : (seat e k).sitting.point ≡ Start
   pub none : stmt_at (seat e k).sitting ≡ None
-  pub moves : MovesSeat e s k (seat_turned (seat e k) (undoing (seat e k).work.recs Leave) (seat e k).began)
+  pub moves : MovesSeat e s k (seat_turned (seat e k) (undoing (seat e k).work.recs Leave) (length e.events))
   pub pages : s.pages ≡ e.pages
   pub latches : s.latches ≡ e.latches

@@ -7,7 +7,7 @@ use Rattle.page_base.specs.declared.numbers.SnapNo.{SnapNo}
 use Rattle.sparse_set.specs.Sparse.{is_copied}
 use Rattle.snap_cat.specs.declared.snapshot.SnapState.TheVariants.{Suspect}
 use Rattle.snap_pages.specs.Cuts.{place_of}
-use Rattle.snap_pages.specs.Shown.{state_of, set_of}
+use Rattle.snap_pages.specs.Shown.{state_of, set_of, owes_of}
 use Rattle.undo_pass.specs.Heals.{IsHealed}
 use Rattle.step_words.specs.declared.point.Point.TheVariants.{Heal}
 use Rattle.step_words.specs.Seats.{Seated, Free, Latched, with_seat}
@@ -42,6 +42,11 @@ pub record DoesLoseHeal (e s : State) (k : ℕ) : Type 0 where
   pub making : (seat e k).making ≡ Some cut
   pub place : SnapNo
   pub its : place_of e.pages cut ≡ Some place
+  -- it holds the page of the last record that the snapshot owes
+  pub front : List Record
+  pub last : Record
+  pub owes : owes_of e.pages place ≡ front ++ last ∷ []
+  pub hold : (seat e k).hold ≡ Latched last.page Ex
   pub turns : TurnsSuspect e.pages s.pages place
   pub says : SaysTurned e s place
   pub seats : s.seats ≡ with_seat e.seats k (record (seat e k) { hold = Free })

@@ -5,17 +5,24 @@ use Rattle.page_base.specs.declared.numbers.SnapNo.{SnapNo}
 use Rattle.page_fmt.specs.Content.{IsPage}
 use Rattle.buf_pool.specs.Pool.{with_pin}
 use Rattle.page_tables.specs.Owners.{is_there}
-use Rattle.plain_model.specs.declared.reply.Reply.TheVariants.{Ok}
+use Rattle.plain_model.specs.declared.reply.Reply.TheVariants.{Ok, Msg}
+use Rattle.plain_model.specs.declared.reply.TheConstants.Message.{REVERT_FAILED}
+use Rattle.plain_model.specs.Messages.{plain}
+use Rattle.page_dev.specs.Faults.{Rose}
+use Rattle.snap_cat.specs.Catalog.{with_state}
+use Rattle.snap_cat.specs.declared.snapshot.SnapState.TheVariants.{Suspect}
+use Rattle.snap_pages.specs.Steps.{SamePlaces}
+use Rattle.snap_pages.specs.Views.{KeepsViews}
 use Rattle.plain_model.specs.declared.stmt.Stmt.TheVariants.{Restore}
-use Rattle.sparse_set.specs.Sparse.{is_copied, sparse_page}
-use Rattle.snap_pages.specs.Shown.{Shown, counts, img, pins, set_of}
+use Rattle.sparse_set.specs.Sparse.{is_copied, sparse_page, faults}
+use Rattle.snap_pages.specs.Shown.{Shown, catalog, counts, img, pins, set_of}
 use Rattle.revert_pass.specs.Gathers.{ShowsSame}
 use Rattle.revert_pass.specs.Got.{Got, has, swapped, ungathered, LeavesRest}
-use Rattle.step_words.specs.declared.point.Point.TheVariants.{Gather, Swap}
+use Rattle.step_words.specs.declared.point.Point.TheVariants.{Gather, Swap, Say}
 use Rattle.step_words.specs.Sittings.{stmt_at}
-use Rattle.step_words.specs.Seats.{Seated, Gathered}
-use Rattle.step_state.specs.State.{State, seat, machine}
-use Rattle.step_state.specs.Moving.{MovesSeat}
+use Rattle.step_words.specs.Seats.{Seated, Gathered, with_seat}
+use Rattle.step_state.specs.State.{State, IsSession, seat, machine}
+use Rattle.step_state.specs.Moving.{MovesSeat, SaysTurned}
 use Rattle.safe_say.specs.Answering.{Answers}
 
 -- the only snapshot stands at the first place
@@ -46,6 +53,24 @@ pub record DoesGather (e s : State) (k : ℕ) : Type 0 where
   pub same : ShowsSame only e.pages s.pages
   pub pinned : pins s.pages ≡ with_pin (pins e.pages) page
   pub moves : MovesSeat e s k (seat_gathered (seat e k) page image)
+  pub latches : s.latches ≡ e.latches
+
+-- a copy can't be read: the snapshot turns suspect, the gathered pages' pins are given back, and the refusal waits to be said
+abbrev pub seat_ungathered : Seated → Seated
+seat_ungathered x = record x { sitting = record x.sitting { point = Say; waiting = Some (Msg (plain REVERT_FAILED)) }; gathered = [] }
+
+pub record DoesLoseGather (e s : State) (k : ℕ) : Type 0 where
+  pub is : IsSession e k
+  pub at : (seat e k).sitting.point ≡ Gather
+  pub rose : Rose (faults (set_of e.pages only)) (faults (set_of s.pages only))
+  pub cat : catalog s.pages ≡ with_state (catalog e.pages) only Suspect
+  pub says : SaysTurned e s only
+  pub tells : s.pages.pool.files.tells ≡ e.pages.pool.files.tells
+  pub images : IsTrue e.pages.pool.files.tells → img s.pages ≡ img e.pages
+  pub places : SamePlaces e.pages s.pages
+  pub views : KeepsViews e.pages s.pages
+  pub unpinned : pins s.pages ≡ ungathered (got_of (seat e k)) (pins e.pages)
+  pub seats : s.seats ≡ with_seat e.seats k (seat_ungathered (seat e k))
   pub latches : s.latches ≡ e.latches
 
 -- Once all are gathered the session swaps. That is the beginning of the swap, and no step of its own.

@@ -8,7 +8,8 @@ use Rattle.plain_model.specs.declared.event.Event.TheVariants.{Turned}
 use Rattle.plain_model.specs.Legal.{Legal, MayCome}
 use Rattle.plain_model.specs.State.{Session, session, committed, copy}
 use Rattle.page_tables.specs.Owners.{is_there}
-use Rattle.sparse_set.specs.Sparse.{is_copied}
+use Rattle.page_dev.specs.Faults.{Rose}
+use Rattle.sparse_set.specs.Sparse.{is_copied, faults}
 use Rattle.snap_cat.specs.Catalog.{IsCatalog, snap_at, with_state}
 use Rattle.snap_cat.specs.declared.snapshot.SnapState.TheVariants.{Suspect}
 use Rattle.snap_pages.specs.Shown.{Shown, catalog, counts, img, pins, set_of, state_of, owes_of, cut_of, IsOpen}
@@ -75,10 +76,11 @@ pub record MovesOn (e s : State) (k : ℕ) (x : Seated) (held : ℕ → Option M
 abbrev pub MovesPins : Shown → Shown → Seated → Seated → Type 0
 MovesPins old new x y = (p : PageId) → pins new p + seat_pins x p ≡ pins old p + seat_pins y p
 
--- A snapshot turns suspect. Of its sparse files it may have lost pages that no view shows by now; its map is the same, and so
--- are the source's pages and all other snapshots.
+-- A snapshot turns suspect, since a call on its sparse files failed. These may have lost pages that no view shows by now; its
+-- map is the same, and so are the source's pages and all other snapshots.
 pub record TurnsSuspect (old new : Shown) (n : SnapNo) : Type 0 where
   pub opened : IsOpen old n
+  pub rose : Rose (faults (set_of old n)) (faults (set_of new n))
   pub pool : new.pool ≡ old.pool
   pub cat : catalog new ≡ with_state (catalog old) n Suspect
   pub many : length new.sets ≡ length old.sets
