@@ -1,5 +1,5 @@
 -- A step that meets a refusal: it gives back what it holds, and says the refusal, unless records have to be taken back first.
-use Rattle.std.specs.Prelude.{ℕ, ◌≡◌, ◌<◌, IsTrue, length, Some, None, Bool, true, false, List, [], ◌≢◌}
+use Rattle.std.specs.Prelude.{ℕ, ◌≡◌, ◌<◌, IsTrue, length, Some, None, Bool, true, false, [], ◌≢◌}
 use Rattle.latch_book.specs.Latches.{without_latch}
 use Rattle.plain_model.specs.declared.reply.Message.{Message}
 use Rattle.plain_model.specs.declared.reply.Reply.TheVariants.{Msg}

@@ -1,5 +1,5 @@
 -- The step that takes one record back from the snapshot in its making.
-use Rattle.std.specs.Prelude.{ℕ, ◌≡◌, ◌≢◌, true, List, Some, None}
+use Rattle.std.specs.Prelude.{ℕ, ◌≡◌, ◌≢◌, true, List, Some, None, ◌++◌, ◌∷◌, []}
 use Rattle.latch_book.specs.declared.latch.LatchMode.TheVariants.{Ex}
 use Rattle.latch_book.specs.Latches.{without_latch}
 use Rattle.rec_log.specs.Records.{Record}
